@@ -1,0 +1,4 @@
+pub mod Integers
+pub mod Divisors
+pub mod Dots
+pub mod LowestForms

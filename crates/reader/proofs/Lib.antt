@@ -1,0 +1,4 @@
+pub mod Asking
+pub mod Headers
+pub mod Numbers
+pub mod Zeros

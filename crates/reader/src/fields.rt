@@ -1,0 +1,64 @@
+// Where things stand in an image: its blocks, its records, and a record's row.
+ghost use mathlib.Core.Path.{_≡_};
+ghost use Prim.Native.Nat.{_+_, _*_, _/_, _<_, _≤_};
+ghost use lib.ListN.{length};
+ghost use Rattle.rows.specs.Image.{blockOf, recordOf, numbersIn, countIn};
+ghost use Rattle.reader.specs.Reading.{unknownsIn, recordsIn};
+use crate::bytes::i32_at;
+use crate::bytes::part;
+use crate::bytes::u16_at;
+use rows::PlainRow;
+
+pub(crate) fn block_of(bytes: &[u8], b: usize) -> &[u8]
+    requires { ⌜ 512 * b + 512 ≤ length (now bytes) ⌝ }
+    ensures whole { λ r. ⌜ now r ≡ blockOf (now (bytes .entry)) b ⌝ }
+    ensures len { λ r. ⌜ length (now r) ≡ 512 ⌝ }
+{
+    part(bytes, 512 * b, 512)
+}
+
+pub(crate) fn record_of(bytes: &[u8], r: usize) -> &[u8]
+    requires { ⌜ (r / 8 + 2) * 512 ≤ length (now bytes) ⌝ }
+    ensures whole { λ rec. ⌜ now rec ≡ recordOf (now (bytes .entry)) r ⌝ }
+    ensures len { λ rec. ⌜ length (now rec) ≡ 60 ⌝ }
+{
+    part(bytes, (r / 8 + 1) * 512 + 8 + 60 * (r % 8), 60)
+}
+
+// The row of a record: the constant stands last there, and first in a row.
+pub(crate) fn row_in(rec: &[u8]) -> PlainRow
+    requires { ⌜ length (now rec) ≡ 60 ⌝ }
+    ensures { λ row. ⌜ row .numbers ≡ numbersIn (now (rec .entry)) ⌝ }
+{
+    let mut numbers = [0; 9];
+    numbers[0] = i32_at(rec, 48);
+    for k in 1..9 {
+        numbers[k] = i32_at(rec, 12 + 4 * k);
+    }
+    PlainRow { numbers }
+}
+
+// How many records block b + 1 has, of t in all.
+pub(crate) fn count_in(t: usize, b: usize) -> usize
+    requires { ⌜ 8 * b ≤ t ⌝ }
+    ensures is { λ r. ⌜ r ≡ countIn t b ⌝ }
+    ensures few { λ r. ⌜ r ≤ 8 ⌝ }
+{
+    (t - 8 * b).min(8)
+}
+
+// n, as the header has it.
+pub(crate) fn unknowns_in(bytes: &[u8]) -> usize
+    requires { ⌜ 512 ≤ length (now bytes) ⌝ }
+    ensures { λ n. ⌜ n ≡ unknownsIn (now (bytes .entry)) ⌝ }
+{
+    u16_at(block_of(bytes, 0), 10) as usize
+}
+
+// t, as the header has it.
+pub(crate) fn records_in(bytes: &[u8]) -> usize
+    requires { ⌜ 512 ≤ length (now bytes) ⌝ }
+    ensures { λ t. ⌜ t ≡ recordsIn (now (bytes .entry)) ⌝ }
+{
+    u16_at(block_of(bytes, 0), 12) as usize
+}

@@ -1,0 +1,4 @@
+pub mod Widths
+pub mod Levels
+pub mod Weights
+pub mod Outcomes

@@ -1,0 +1,4 @@
+pub mod Rows
+pub mod Bytes
+pub mod Derivations
+pub mod Image

@@ -1,0 +1,38 @@
+// A row's numbers, whatever they are.
+ghost use mathlib.Core.Path.{_≡_};
+ghost use Rattle.rows.specs.Rows.{levelOf, isFalse};
+
+// The constant b and then a1 to a8; with n unknowns those past an are 0.
+#[derive(Clone, Copy, Debug)]
+pub struct PlainRow {
+    pub numbers: [i32; 9],
+}
+
+impl PlainRow {
+    // The greatest k for which ak is not 0, or 0.
+    pub fn level(&self) -> usize
+        ensures { λ r. ⌜ r ≡ levelOf (now (self .entry) .numbers) ⌝ }
+    {
+        last_place(&self.numbers)
+    }
+
+    // Whether no point satisfies the row: every coefficient is 0, and the constant is negative.
+    pub fn is_false(&self) -> bool
+        ensures { λ r. ⌜ r ≡ isFalse (now (self .entry) .numbers) ⌝ }
+    {
+        self.level() == 0 && self.numbers[0] < 0
+    }
+}
+
+// The place of the last number that is not 0, but for the first number.
+fn last_place(numbers: &[i32; 9]) -> usize
+    ensures { λ r. ⌜ r ≡ levelOf (now (numbers .entry)) ⌝ }
+{
+    let mut last = 0;
+    for k in 1..9 {
+        if numbers[k] != 0 {
+            last = k;
+        }
+    }
+    last
+}
