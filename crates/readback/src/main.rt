@@ -7,13 +7,11 @@ ghost use Rattle.reader.specs.Reading.{readOf};
 use reader::AcceptedDisplay;
 use reader::RefusalDisplay;
 use reader::read;
+use rows::layout::LARGEST_IMAGE;
 use std::alloc::AllocError;
 use std::alloc::Global;
 use std::io;
 use std::io::Read;
-
-// One byte more than the largest image: what is longer is refused for its length, and not held whole.
-const ENOUGH: u64 = 16897;
 
 // The line for these bytes.
 fn line(heap: Global, image: &[u8]) -> Result<String, AllocError>
@@ -27,7 +25,8 @@ fn line(heap: Global, image: &[u8]) -> Result<String, AllocError>
 
 fn main(rt: LibcRuntime) -> io::Result<()> {
     let mut image = Vec::new(rt.alloc());
-    let mut input = rt.stdin().take(ENOUGH);
+    // One byte more than the largest image: what is longer is refused for its length, and not held whole.
+    let mut input = rt.stdin().take(LARGEST_IMAGE as u64 + 1);
     input.read_to_end(&mut image)?;
     rt.println(line(rt.alloc(), &image)?)
 }

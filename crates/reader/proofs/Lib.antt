@@ -1,4 +1,5 @@
 pub mod Asking
 pub mod Headers
 pub mod Numbers
+pub mod Worked
 pub mod Zeros

@@ -1,9 +1,11 @@
 -- What the answers of the reader show, by value: a reference is what it points to.
-use mathlib.Core.Bool.{cond, _&&_}
+use mathlib.Core.Bool.{true, cond, _&&_}
 use mathlib.Core.List.{List}
-use Prim.Native.Nat.{ℕ, _+_, _/_}
+use mathlib.Core.Path.{_≡_}
+use Prim.Native.Nat.{ℕ, _+_, _/_, _<_}
 use lib.Dec.{ltb}
 use lib.ListN.{length}
+use Rattle.std.specs.Results.{isOk}
 use Rattle.std.specs.declared.result.Result.{Result}
 use Rattle.std.specs.declared.result.Result.the-variants.{Ok, Err}
 use Rattle.rows.specs.Image.{recordOf}
@@ -40,3 +42,7 @@ shownAt reading r =
     cond (ltb r (reading .records) && ltb (r / 8 + 1) (length (reading .image) / 512))
     (cond (isInput (recordOf (reading .image) r)) (Ok (input (recordOf (reading .image) r))) (Ok (step (recordOf (reading .image) r))))
     (Err (NoRecord r))
+
+-- every record below the count is shown
+abbrev pub ShowsAll : Reading → Type 0
+ShowsAll reading = (r : ℕ) → r < reading .records → isOk (shownAt reading r) ≡ true

@@ -6,6 +6,8 @@ ghost use Rattle.reader.specs.Shown.{readingIn, viewedRecord, shownAt};
 use crate::fields::record_of;
 use crate::questions::is_input;
 use crate::refusal::Refusal;
+use rows::layout::BLOCK;
+use rows::layout::RECORDS_IN_BLOCK;
 use std::fmt;
 
 // The bytes of the image, and what was counted in them.
@@ -54,7 +56,7 @@ impl<'a> Accepted<'a> {
     {
         let bytes = self.bytes;
         // An accepted image reaches as far as its count of records says; the type itself does not tell.
-        if r >= self.records || r / 8 + 1 >= bytes.len() / 512 {
+        if r >= self.records || r / RECORDS_IN_BLOCK + 1 >= bytes.len() / BLOCK {
             return Err(Refusal::NoRecord(r));
         }
         let rec = record_of(bytes, r);

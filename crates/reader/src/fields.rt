@@ -8,13 +8,21 @@ use crate::bytes::i32_at;
 use crate::bytes::part;
 use crate::bytes::u16_at;
 use rows::PlainRow;
+use rows::layout::BLOCK;
+use rows::layout::COEFFICIENTS_AT;
+use rows::layout::CONSTANT_AT;
+use rows::layout::HELD_AT;
+use rows::layout::RECORD;
+use rows::layout::RECORDS_AT;
+use rows::layout::RECORDS_IN_BLOCK;
+use rows::layout::UNKNOWNS_AT;
 
 pub(crate) fn block_of(bytes: &[u8], b: usize) -> &[u8]
     requires { ⌜ 512 * b + 512 ≤ length (now bytes) ⌝ }
     ensures whole { λ r. ⌜ now r ≡ blockOf (now (bytes .entry)) b ⌝ }
     ensures len { λ r. ⌜ length (now r) ≡ 512 ⌝ }
 {
-    part(bytes, 512 * b, 512)
+    part(bytes, BLOCK * b, BLOCK)
 }
 
 pub(crate) fn record_of(bytes: &[u8], r: usize) -> &[u8]
@@ -22,7 +30,12 @@ pub(crate) fn record_of(bytes: &[u8], r: usize) -> &[u8]
     ensures whole { λ rec. ⌜ now rec ≡ recordOf (now (bytes .entry)) r ⌝ }
     ensures len { λ rec. ⌜ length (now rec) ≡ 60 ⌝ }
 {
-    part(bytes, (r / 8 + 1) * 512 + 8 + 60 * (r % 8), 60)
+    let block = r / RECORDS_IN_BLOCK + 1;
+    part(
+        bytes,
+        block * BLOCK + HELD_AT + RECORD * (r % RECORDS_IN_BLOCK),
+        RECORD,
+    )
 }
 
 // The row of a record: the constant stands last there, and first in a row.
@@ -31,9 +44,9 @@ pub(crate) fn row_in(rec: &[u8]) -> PlainRow
     ensures { λ row. ⌜ row .numbers ≡ numbersIn (now (rec .entry)) ⌝ }
 {
     let mut numbers = [0; 9];
-    numbers[0] = i32_at(rec, 48);
+    numbers[0] = i32_at(rec, CONSTANT_AT);
     for k in 1..9 {
-        numbers[k] = i32_at(rec, 12 + 4 * k);
+        numbers[k] = i32_at(rec, COEFFICIENTS_AT + 4 * (k - 1));
     }
     PlainRow { numbers }
 }
@@ -44,7 +57,7 @@ pub(crate) fn count_in(t: usize, b: usize) -> usize
     ensures is { λ r. ⌜ r ≡ countIn t b ⌝ }
     ensures few { λ r. ⌜ r ≤ 8 ⌝ }
 {
-    (t - 8 * b).min(8)
+    (t - RECORDS_IN_BLOCK * b).min(RECORDS_IN_BLOCK)
 }
 
 // n, as the header has it.
@@ -52,7 +65,7 @@ pub(crate) fn unknowns_in(bytes: &[u8]) -> usize
     requires { ⌜ 512 ≤ length (now bytes) ⌝ }
     ensures { λ n. ⌜ n ≡ unknownsIn (now (bytes .entry)) ⌝ }
 {
-    u16_at(block_of(bytes, 0), 10) as usize
+    u16_at(block_of(bytes, 0), UNKNOWNS_AT) as usize
 }
 
 // t, as the header has it.
@@ -60,5 +73,5 @@ pub(crate) fn records_in(bytes: &[u8]) -> usize
     requires { ⌜ 512 ≤ length (now bytes) ⌝ }
     ensures { λ t. ⌜ t ≡ recordsIn (now (bytes .entry)) ⌝ }
 {
-    u16_at(block_of(bytes, 0), 12) as usize
+    u16_at(block_of(bytes, 0), RECORDS_AT) as usize
 }

@@ -5,76 +5,95 @@ ghost use Prim.Native.Nat.{_+_, _*_, _/_, _≤_};
 ghost use lib.ListN.{length};
 ghost use Rattle.rows.specs.Derivations.{areParents};
 ghost use Rattle.rows.specs.Image.{recordOf, firstIn, secondIn, uIn, vIn, numbersIn};
-ghost use Rattle.rows.specs.Rows.{isRow, isFalse, sameNumbers};
+ghost use Rattle.rows.specs.Rows.{isRow, isFalse};
 ghost use Rattle.reader.specs.Reading.{isLength, sealRight, frameRight, headerRight, isInput, kindRight, parentsRight, combinationRight};
 use crate::bytes::u16_at;
 use crate::bytes::u32_at;
 use crate::bytes::zeros_in;
 use crate::fields::record_of;
 use crate::fields::row_in;
+use rows::PlainRowPartialEq;
+use rows::ROW_LIMIT;
 use rows::Row;
 use rows::combination;
+use rows::layout::BLOCK;
+use rows::layout::COEFFICIENTS_AT;
+use rows::layout::COUNT_AT;
+use rows::layout::COUNT_END;
+use rows::layout::EDITION;
+use rows::layout::EDITION_AT;
+use rows::layout::FIRST_AT;
+use rows::layout::HELD_AT;
+use rows::layout::INPUT;
+use rows::layout::KIND_AT;
+use rows::layout::KIND_END;
+use rows::layout::LARGEST_IMAGE;
+use rows::layout::MOST_RECORDS;
+use rows::layout::MOST_UNKNOWNS;
+use rows::layout::NUMBER_AT;
+use rows::layout::RECORD;
+use rows::layout::RECORDS_AT;
+use rows::layout::ROW_END;
+use rows::layout::SEAL_AT;
+use rows::layout::SECOND_AT;
+use rows::layout::SMALLEST_IMAGE;
+use rows::layout::STEP;
+use rows::layout::U_AT;
+use rows::layout::UNKNOWNS_AT;
+use rows::layout::V_AT;
 use rows::seal;
-
-const INPUT: u8 = 1;
-
-const STEP: u8 = 2;
-
-const EDITION: u16 = 1;
-
-const MULTIPLIER_LIMIT: u32 = 1048576;
 
 pub(crate) fn is_length(size: usize) -> bool
     ensures { λ r. ⌜ r ≡ isLength size ⌝ }
 {
-    size >= 1024 && size <= 16896 && size % 512 == 0
+    size >= SMALLEST_IMAGE && size <= LARGEST_IMAGE && size % BLOCK == 0
 }
 
 pub(crate) fn seal_right(block: &[u8]) -> bool
     requires { ⌜ length (now block) ≡ 512 ⌝ }
     ensures { λ r. ⌜ r ≡ sealRight (now (block .entry)) ⌝ }
 {
-    u32_at(block, 508) == seal(block)
+    u32_at(block, SEAL_AT) == seal(block)
 }
 
 pub(crate) fn frame_right(block: &[u8], number: usize, count: usize, end: usize) -> bool
     requires { ⌜ length (now block) ≡ 512 ⌝ ∗ ⌜ end ≤ 508 ⌝ }
     ensures { λ r. ⌜ r ≡ frameRight (now (block .entry)) number count end ⌝ }
 {
-    u32_at(block, 0) as usize == number
-        && u16_at(block, 4) as usize == count
-        && zeros_in(block, 6, 8)
-        && zeros_in(block, end, 508)
+    u32_at(block, NUMBER_AT) as usize == number
+        && u16_at(block, COUNT_AT) as usize == count
+        && zeros_in(block, COUNT_END, HELD_AT)
+        && zeros_in(block, end, SEAL_AT)
 }
 
 pub(crate) fn header_right(block: &[u8], size: usize) -> bool
     requires { ⌜ length (now block) ≡ 512 ⌝ }
     ensures { λ r. ⌜ r ≡ headerRight (now (block .entry)) size ⌝ }
 {
-    let n = u16_at(block, 10);
-    let t = u16_at(block, 12) as usize;
-    u16_at(block, 8) == EDITION
+    let n = u16_at(block, UNKNOWNS_AT);
+    let t = u16_at(block, RECORDS_AT) as usize;
+    u16_at(block, EDITION_AT) == EDITION
         && 1 <= n
-        && n <= 8
+        && n <= MOST_UNKNOWNS
         && 1 <= t
-        && t <= 256
-        && size == 512 * (1 + (t + 7) / 8)
+        && t <= MOST_RECORDS
+        && size == BLOCK * (1 + (t + 7) / 8)
 }
 
 pub(crate) fn is_input(rec: &[u8]) -> bool
     requires { ⌜ length (now rec) ≡ 60 ⌝ }
     ensures { λ r. ⌜ r ≡ isInput (now (rec .entry)) ⌝ }
 {
-    rec[0] == INPUT
+    rec[KIND_AT] == INPUT
 }
 
 pub(crate) fn kind_right(rec: &[u8]) -> bool
     requires { ⌜ length (now rec) ≡ 60 ⌝ }
     ensures { λ r. ⌜ r ≡ kindRight (now (rec .entry)) ⌝ }
 {
-    ((is_input(rec) && zeros_in(rec, 6, 16)) || rec[0] == STEP)
-        && zeros_in(rec, 1, 4)
-        && zeros_in(rec, 52, 60)
+    ((is_input(rec) && zeros_in(rec, SECOND_AT, COEFFICIENTS_AT)) || rec[KIND_AT] == STEP)
+        && zeros_in(rec, KIND_END, FIRST_AT)
+        && zeros_in(rec, ROW_END, RECORD)
 }
 
 // The row is in its limits, zero past an and in lowest form.
@@ -99,12 +118,12 @@ fn are_parents(rec: &[u8], r: usize) -> bool
     requires { ⌜ length (now rec) ≡ 60 ⌝ }
     ensures { λ b. ⌜ b ≡ areParents r (firstIn (now (rec .entry))) (secondIn (now (rec .entry))) (uIn (now (rec .entry))) (vIn (now (rec .entry))) ⌝ }
 {
-    let u = u32_at(rec, 8);
-    let v = u32_at(rec, 12);
-    (u16_at(rec, 4) as usize) < r
-        && (u16_at(rec, 6) as usize) < r
-        && u <= MULTIPLIER_LIMIT
-        && v <= MULTIPLIER_LIMIT
+    let u = u32_at(rec, U_AT);
+    let v = u32_at(rec, V_AT);
+    (u16_at(rec, FIRST_AT) as usize) < r
+        && (u16_at(rec, SECOND_AT) as usize) < r
+        && u <= ROW_LIMIT
+        && v <= ROW_LIMIT
         && u + v > 0
 }
 
@@ -116,23 +135,12 @@ pub(crate) fn combination_right(bytes: &[u8], rec: &[u8], r: usize) -> bool
     if is_input(rec) {
         return true;
     }
-    let first = row_in(record_of(bytes, u16_at(rec, 4) as usize));
-    let second = row_in(record_of(bytes, u16_at(rec, 6) as usize));
-    match combination(u32_at(rec, 8), &first, u32_at(rec, 12), &second) {
-        Some(row) => same_numbers(&row.plain().numbers, &row_in(rec).numbers),
+    let first = row_in(record_of(bytes, u16_at(rec, FIRST_AT) as usize));
+    let second = row_in(record_of(bytes, u16_at(rec, SECOND_AT) as usize));
+    match combination(u32_at(rec, U_AT), &first, u32_at(rec, V_AT), &second) {
+        Some(row) => row.plain() == row_in(rec),
         None => false,
     }
-}
-
-fn same_numbers(a: &[i32; 9], b: &[i32; 9]) -> bool
-    ensures { λ r. ⌜ r ≡ sameNumbers (now (a .entry)) (now (b .entry)) ⌝ }
-{
-    for k in 0..9 {
-        if a[k] != b[k] {
-            return false;
-        }
-    }
-    true
 }
 
 // The last row, that of record r, is false.

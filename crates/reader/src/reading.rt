@@ -5,8 +5,8 @@ ghost use lib.ListN.{length};
 ghost use Rattle.rows.specs.Image.{blocksFor};
 ghost use Rattle.reader.specs.Questions.{asked, forEach};
 ghost use Rattle.std.specs.Vec.{made};
-ghost use Rattle.reader.specs.Reading.{headerAsked, recordAsked, frameAsked, blockAsked, imageAsked, Sized, inputsBelow, readOf};
-ghost use Rattle.reader.specs.Shown.{viewed};
+ghost use Rattle.reader.specs.Reading.{headerAsked, recordAsked, frameAsked, blockAsked, imageAsked, Sized, inputsBelow, readingOf, readOf};
+ghost use Rattle.reader.specs.Shown.{readingIn, viewed, ShowsAll};
 use crate::accepted::Accepted;
 use crate::fields::block_of;
 use crate::fields::count_in;
@@ -24,6 +24,10 @@ use crate::questions::parents_right;
 use crate::questions::row_right;
 use crate::questions::seal_right;
 use crate::refusal::Refusal;
+use rows::layout::HEADER_END;
+use rows::layout::HELD_AT;
+use rows::layout::RECORD;
+use rows::layout::RECORDS_IN_BLOCK;
 
 fn ask(yes: bool, refusal: Refusal) -> Result<(), Refusal>
     ensures { λ r. ⌜ r ≡ asked yes refusal ⌝ }
@@ -38,7 +42,7 @@ fn ask_header(bytes: &[u8]) -> Result<(), Refusal>
 {
     let block = block_of(bytes, 0);
     ask(seal_right(block), Refusal::Seal(0))?;
-    ask(frame_right(block, 0, 0, 14), Refusal::Frame(0))?;
+    ask(frame_right(block, 0, 0, HEADER_END), Refusal::Frame(0))?;
     ask(header_right(block, bytes.len()), Refusal::Header)
 }
 
@@ -59,7 +63,7 @@ fn ask_records(bytes: &[u8], n: usize, b: usize, count: usize) -> Result<(), Ref
     ensures { λ o. ⌜ o ≡ forEach (λ c. recordAsked (now (bytes .entry)) n (8 * b + c)) count ⌝ }
 {
     for c in 0..count {
-        ask_record(bytes, n, 8 * b + c)?;
+        ask_record(bytes, n, RECORDS_IN_BLOCK * b + c)?;
     }
     Ok(())
 }
@@ -73,7 +77,7 @@ fn ask_frame(bytes: &[u8], t: usize, b: usize) -> Result<(), Refusal>
     let count = count_in(t, b);
     ask(seal_right(block), Refusal::Seal(b + 1))?;
     ask(
-        frame_right(block, b + 1, count, 8 + 60 * count),
+        frame_right(block, b + 1, count, HELD_AT + RECORD * count),
         Refusal::Frame(b + 1),
     )
 }
@@ -123,11 +127,22 @@ fn ask_image(bytes: &[u8]) -> Result<(), Refusal>
     ask(last_false(bytes, t - 1), Refusal::NotFalse(t - 1))
 }
 
+// The image, once every question is answered with yes.
+fn accepted(bytes: &[u8]) -> Accepted<'_>
+    requires { ⌜ Sized (now bytes) ⌝ }
+    ensures is { λ a. ⌜ readingIn a ≡ readingOf (now (bytes .entry)) ⌝ }
+    ensures shows { λ a. ⌜ ShowsAll (readingIn a) ⌝ }
+{
+    let records = records_in(bytes);
+    Accepted::new(bytes, records, count_inputs(bytes, records))
+}
+
 // Reads an image: accepts it, or refuses it by the first question whose answer is no.
+// An accepted image shows every record below its count.
 pub fn read(bytes: &[u8]) -> Result<Accepted<'_>, Refusal>
-    ensures { λ r. ⌜ viewed r ≡ readOf (now (bytes .entry)) ⌝ }
+    ensures is { λ r. ⌜ viewed r ≡ readOf (now (bytes .entry)) ⌝ }
+    ensures shows { λ r. ⌜ made r (λ a. ShowsAll (readingIn a)) ⌝ }
 {
     ask_image(bytes)?;
-    let records = records_in(bytes);
-    Ok(Accepted::new(bytes, records, count_inputs(bytes, records)))
+    Ok(accepted(bytes))
 }

@@ -13,11 +13,11 @@ use Rattle.std.specs.declared.option.Option.{Option}
 use Rattle.std.specs.declared.option.Option.the-variants.{Some, None}
 use Rattle.std.proofs.shelf.Tests.{and-left, and-right}
 use Rattle.arith.specs.Lowest.{withinAll, lowestOf}
-use Rattle.rows.specs.Rows.{rowLimit, levelOf, inLowest, isRow, asRow, rowOf}
+use Rattle.rows.specs.Rows.{rowLimit, levelOf, inLowest, isRow, asRow, inLimit, rowOf}
 
 -- what the lowest form of the numbers has, the row has
 pub found-row : {T : Type 0} (f : T → List ℤ) (o : Option T) (zs : List ℤ) (P : List ℤ → Type 0) → mapped f o ≡ rowOf zs → P (lowestOf zs) → found o (λ t. P (f t))
-unfolding rowOf
+unfolding inLimit
 found-row f None zs P e p = tt
 found-row f (Some t) zs P e p = go (withinAll rowLimit (lowestOf zs)) e
   where

@@ -71,9 +71,13 @@ isFalse row = eqb (levelOf row) 0 && ltZ (getD row 0 (pos 0)) (pos 0)
 unfoldable pub asRow : List ℤ → Option (List ℤ)
 asRow zs = cond (inLowest zs) (Some zs) None
 
+-- the numbers, if all are within the limit
+unfoldable pub inLimit : List ℤ → Option (List ℤ)
+inLimit zs = cond (withinAll rowLimit zs) (Some zs) None
+
 -- the lowest form of the numbers, judged by the limit once it is taken
-unfoldable pub rowOf : List ℤ → Option (List ℤ)
-rowOf zs = cond (withinAll rowLimit (lowestOf zs)) (Some (lowestOf zs)) None
+abbrev pub rowOf : List ℤ → Option (List ℤ)
+rowOf zs = inLimit (lowestOf zs)
 
 -- the combination u·first + v·second, for multipliers within the limit
 unfoldable pub combinationOf : ℕ → List ℤ → ℕ → List ℤ → Option (List ℤ)

@@ -4,6 +4,7 @@ ghost use Prim.Native.Nat.{_≤_, _^_};
 ghost use lib.IntN.{pos, _+ℤ_, _*ℤ_, natAbs};
 ghost use Rattle.arith.specs.Dot.{dot, combine};
 ghost use Rattle.arith.specs.Lowest.{AllWithin, withinAll, gcdAll, lowestOf};
+ghost use Rattle.rows.specs.Rows.{sameNumbers};
 use arith::gcd;
 
 // The greatest whole number that divides all; 0 where all are 0.
@@ -29,10 +30,22 @@ pub(crate) fn within(numbers: &[i64; 9], limit: u64) -> bool
     true
 }
 
+pub(crate) fn same_numbers(a: &[i32; 9], b: &[i32; 9]) -> bool
+    ensures { λ r. ⌜ r ≡ sameNumbers (now (a .entry)) (now (b .entry)) ⌝ }
+{
+    for k in 0..9 {
+        if a[k] != b[k] {
+            return false;
+        }
+    }
+    true
+}
+
 // The numbers divided by the greatest whole number that divides them all.
 pub(crate) fn lowest(numbers: [i64; 9]) -> [i64; 9]
     requires { ⌜ AllWithin (2 ^ 53) numbers ⌝ }
-    ensures { λ r. ⌜ r ≡ lowestOf numbers ⌝ }
+    ensures is { λ r. ⌜ r ≡ lowestOf numbers ⌝ }
+    ensures least { λ r. ⌜ gcdAll r ≤ 1 ⌝ }
 {
     let g = gcd_all(&numbers);
     if g <= 1 {

@@ -1,6 +1,7 @@
 // A row's numbers, whatever they are.
 ghost use mathlib.Core.Path.{_≡_};
-ghost use Rattle.rows.specs.Rows.{levelOf, isFalse};
+ghost use Rattle.rows.specs.Rows.{levelOf, isFalse, sameNumbers};
+use crate::numbers::same_numbers;
 
 // The constant b and then a1 to a8; with n unknowns those past an are 0.
 #[derive(Clone, Copy, Debug)]
@@ -23,6 +24,16 @@ impl PlainRow {
         self.level() == 0 && self.numbers[0] < 0
     }
 }
+
+pub impl PartialEq<PlainRow> for PlainRow as PlainRowPartialEq {
+    ghost equals = { λ a b r. r ≡ sameNumbers (a .numbers) (b .numbers) };
+
+    fn eq(&self, other: &PlainRow) -> bool {
+        same_numbers(&self.numbers, &other.numbers)
+    }
+}
+
+pub impl Eq for PlainRow as PlainRowEq {}
 
 // The place of the last number that is not 0, but for the first number.
 fn last_place(numbers: &[i32; 9]) -> usize

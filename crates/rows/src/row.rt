@@ -5,7 +5,7 @@ ghost use Prim.Native.Nat.{_≤_, _^_};
 ghost use Rattle.std.specs.Options.{mapped};
 ghost use Rattle.std.specs.declared.option.Option.the-variants.{Some, None};
 ghost use Rattle.arith.specs.Lowest.{AllWithin, gcdAll};
-ghost use Rattle.rows.specs.Rows.{worthOf, isTrue, levelOf, asRow, rowOf};
+ghost use Rattle.rows.specs.Rows.{worthOf, isTrue, levelOf, asRow, inLimit, rowOf};
 use crate::numbers::gcd_all;
 use crate::numbers::lowest;
 use crate::numbers::narrowed;
@@ -39,7 +39,7 @@ impl Row {
     }
 
     // The plain row, which the caller knows to be a row.
-    pub fn known(plain: PlainRow) -> Row
+    pub(crate) fn known(plain: PlainRow) -> Row
         requires { ⌜ AllWithin (2 ^ 20) (plain .numbers) ⌝ ∗ ⌜ gcdAll (plain .numbers) ≤ 1 ⌝ }
         ensures { λ r. ⌜ r .plain ≡ plain ⌝ }
     {
@@ -62,7 +62,7 @@ impl Row {
     pub fn level(&self) -> usize
         ensures { λ r. ⌜ r ≡ levelOf (now (self .entry) .plain .numbers) ⌝ }
     {
-        self.plain.level()
+        PlainRow::level(&self.plain)
     }
 
     // The worth a1·N1 + .. + a8·N8 + b·D at the values.
@@ -102,10 +102,17 @@ pub(crate) fn row_of(numbers: [i64; 9]) -> Option<Row>
     requires { ⌜ AllWithin (2 ^ 53) numbers ⌝ }
     ensures { λ r. ⌜ mapped (λ row. row .plain .numbers) r ≡ rowOf numbers ⌝ }
 {
-    let least = lowest(numbers);
-    if !within(&least, ROW_LIMIT as u64) {
+    in_limit(&lowest(numbers))
+}
+
+// Numbers in lowest form as a row, if all are within the limit.
+fn in_limit(numbers: &[i64; 9]) -> Option<Row>
+    requires { ⌜ gcdAll (now numbers) ≤ 1 ⌝ }
+    ensures { λ r. ⌜ mapped (λ row. row .plain .numbers) r ≡ inLimit (now (numbers .entry)) ⌝ }
+{
+    if !within(numbers, ROW_LIMIT as u64) {
         return None;
     }
-    let numbers = narrowed(&least);
+    let numbers = narrowed(numbers);
     Some(Row::known(PlainRow { numbers }))
 }

@@ -12,7 +12,7 @@ use Rattle.std.proofs.shelf.Lists.{getD-set-same, getD-set-other}
 use Rattle.std.proofs.shelf.Signed.{toZ-ofZ}
 use Rattle.rows.specs.Bytes.{leI32}
 use Rattle.rows.specs.Image.{placeOf, numbersIn}
-use Rattle.reader.proofs.Numbers.{place-more, first-place}
+use Rattle.reader.proofs.Numbers.{place-is, first-place}
 use Rattle.reader.proofs.fields.row_in.Needs as need
 
 pub loop-k-holds : need.loop-k-holds
@@ -23,7 +23,7 @@ loop-k-holds c =
 pub loop-k-again : need.loop-k-again
 loop-k-again c =
     let f : SFits w32 (c .i32-at-in-loop-k .result) = record { sfits = c .i32-at-in-loop-k .ok } in
-    let v = c .i32-at-in-loop-k .ensures ∙ ap (leI32 (c .args .rec .now)) (place-more (c .loop-k .k) (c .loop-k .kept .k)) in
+    let v = c .i32-at-in-loop-k .ensures ∙ ap (leI32 (c .args .rec .now)) (place-is (c .loop-k .k) (c .loop-k .kept .k)) in
     let lt : c .loop-k .k < length (c .loop-k .numbers) = omega arith in (
       length-set _ _ _ ∙ c .loop-k .inv .0,
       below-more _ _

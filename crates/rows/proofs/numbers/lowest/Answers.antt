@@ -2,8 +2,8 @@
 use borrow.Author.Needs.{needs}
 use borrow.Author.Differences.{ints}
 use native.Mathlib.Omega.{arith}
-use Prim.Native.Nat.{ℕ, _<_, _^_}
-use mathlib.Core.Path.{_≡_, refl, _∙_, ap}
+use Prim.Native.Nat.{ℕ, _<_, _≤_, _^_}
+use mathlib.Core.Path.{_≡_, refl, sym, _∙_, ap, subst}
 use mathlib.Core.List.{List, append-nil}
 use lib.IntN.{ℤ, pos}
 use lib.Signed.{quotZ}
@@ -13,13 +13,14 @@ use mir.Val.{SFits, toZ}
 use Rattle.std.proofs.shelf.Signed.{toZ-ofZ}
 use Rattle.std.proofs.shelf.Lists.{getD-default, take-all, drop-all}
 use Rattle.std.proofs.shelf.Edits.{map-over-more}
-use Rattle.arith.specs.Lowest.{gcdAll, AllWithin}
-use Rattle.arith.proofs.LowestForms.{from-within, lowest-by, lowest-as-given}
+use Rattle.arith.specs.Lowest.{AllWithin, gcdAll, lowestOf}
+use Rattle.arith.proofs.LowestForms.{from-within, lowest-by, lowest-as-given, lowest-is-lowest}
 use Rattle.rows.proofs.Widths.{quot-fits}
 use Rattle.rows.proofs.numbers.lowest.Needs as need
 
 pub returns-then-g-le1 : need.returns-then-g-le1
-returns-then-g-le1 c = lowest-as-given (c .gcd-all-g .result) (c .args .numbers) (c .if-g-le1 .taken) (c .gcd-all-g .ensures)
+returns-then-g-le1 c =
+    record { is = lowest-as-given (c .gcd-all-g .result) (c .args .numbers) (c .if-g-le1 .taken) (c .gcd-all-g .ensures); least = search needs }
 
 -- the divisor is within the limit of the numbers
 small : (g : ℕ) (zs : List ℤ) → g ≡ gcdAll zs → AllWithin (2 ^ 53) zs → toZ w64 g ≡ pos g
@@ -54,4 +55,5 @@ returns c =
     let n : ¬ (c .gcd-all-g .result ≡ 0) = λ z. omega arith in
     let t = take-all (c .loop-x .x-index) (c .args .numbers) (omega arith) in
     let d = drop-all (c .loop-x .x-index) (c .args .numbers) (omega arith) in
-    simp (t, d, e, append-nil) at (c .loop-x .inv) ∙ lowest-by (c .gcd-all-g .result) (c .args .numbers) n (c .gcd-all-g .ensures)
+    let is : c .loop-x .x-items ≡ lowestOf (c .args .numbers) = simp (t, d, e, append-nil) at (c .loop-x .inv) ∙ lowest-by (c .gcd-all-g .result) (c .args .numbers) n (c .gcd-all-g .ensures) in
+    record { is = is; least = subst (λ (zs : List ℤ). gcdAll zs ≤ 1) (sym is) (lowest-is-lowest (c .args .numbers)) }

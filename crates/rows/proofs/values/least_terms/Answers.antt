@@ -15,12 +15,12 @@ lowest-requires c κs = subst (AllWithin (2 ^ 53)) (sym (c .widened .ensures)) (
 
 pub narrowed-requires : need.narrowed-requires
 narrowed-requires c κs =
-    subst (AllWithin (2 ^ 20)) (sym (c .lowest .ensures ∙ ap lowestOf (c .widened .ensures)))
+    subst (AllWithin (2 ^ 20)) (sym (c .lowest .ensures .is ∙ ap lowestOf (c .widened .ensures)))
     (within-weaken (2 ^ 18) (2 ^ 20) (lowestOf (c .args .numbers .now)) (omega arith) (lowest-within (2 ^ 18) (c .args .numbers .now) (c .pre .0)))
 
 pub returns : need.returns
 returns c =
-    let e : c .narrowed .result ≡ lowestOf (c .args .numbers .now) = c .narrowed .ensures ∙ c .lowest .ensures ∙ ap lowestOf (c .widened .ensures) in
+    let e : c .narrowed .result ≡ lowestOf (c .args .numbers .now) = c .narrowed .ensures ∙ c .lowest .ensures .is ∙ ap lowestOf (c .widened .ensures) in
     record {
       is = e;
       limits = subst (AllWithin (2 ^ 18)) (sym e) (lowest-within (2 ^ 18) (c .args .numbers .now) (c .pre .0));

@@ -6,9 +6,9 @@ use lib.ListN.{getD, drop}
 use mir.Syntax.{w32}
 use mir.Val.{SFits}
 use Rattle.std.proofs.shelf.Lists.{drop-all}
 use Rattle.rows.specs.Rows.{sameNumbers}
-use Rattle.reader.proofs.Numbers.{same-on, same-off}
-use Rattle.reader.proofs.questions.same_numbers.Needs as need
+use Rattle.rows.proofs.Same.{same-on, same-off}
+use Rattle.rows.proofs.numbers.same_numbers.Needs as need
 
 pub returns-then-a-k : need.returns-then-a-k
 returns-then-a-k c =
