@@ -1,17 +1,56 @@
-// Reads every image that data/lines.txt names, and writes its name and the line that the reader answers.
+// Answers every image that lines.txt names by its line, and then shows the records of those that are accepted.
+use reader::Accepted;
 use reader::AcceptedDisplay;
+use reader::Record;
+use reader::Refusal;
 use reader::RefusalDisplay;
 use reader::read;
 use std::error::AnyError;
 use std::fs;
 
-// The answer for one image.
+fn image(rt: &LibcRuntime, name: &str) -> Result<Vec<u8>, AnyError> {
+    Ok(fs::read(rt, name)?)
+}
+
 fn answer(rt: &LibcRuntime, name: &str) -> Result<(), AnyError> {
-    let path = format!(rt.alloc(), "{name}")?;
-    let image = fs::read(rt, path.as_str())?;
-    match read(&image) {
+    let bytes = image(rt, name)?;
+    match read(&bytes) {
         Ok(accepted) => println!(rt, "{name} {accepted}")?,
         Err(refusal) => println!(rt, "{name} {refusal}")?,
+    }
+    Ok(())
+}
+
+// What the records of an image are, and the refusal of the one after the last.
+#[derive(Drop)]
+struct Shown {
+    inputs: usize,
+    steps: usize,
+    past: Refusal,
+}
+
+fn show(accepted: &Accepted) -> Shown {
+    let mut inputs = 0usize;
+    let mut steps = 0usize;
+    for r in 0..accepted.records() {
+        match accepted.record(r) {
+            Ok(Record::Input(_)) => inputs = inputs.saturating_add(1),
+            Ok(Record::Step(_)) => steps = steps.saturating_add(1),
+            Err(past) => return Shown { inputs, steps, past },
+        }
+    }
+    let past = match accepted.record(accepted.records()) {
+        Ok(_) => Refusal::Length,
+        Err(refusal) => refusal,
+    };
+    Shown { inputs, steps, past }
+}
+
+fn show_records(rt: &LibcRuntime, name: &str) -> Result<(), AnyError> {
+    let bytes = image(rt, name)?;
+    if let Ok(accepted) = read(&bytes) {
+        let Shown { inputs, steps, past } = show(&accepted);
+        println!(rt, "{name} shows {inputs} inputs and {steps} steps, then {past}")?;
     }
     Ok(())
 }
@@ -21,6 +60,11 @@ fn main(rt: LibcRuntime) -> Result<(), AnyError> {
     for line in lines.as_str().lines() {
         if let Some((name, _)) = line.split_once(' ') {
             answer(&rt, name)?;
+        }
+    }
+    for line in lines.as_str().lines() {
+        if let Some((name, _)) = line.split_once(' ') {
+            show_records(&rt, name)?;
         }
     }
     Ok(())
