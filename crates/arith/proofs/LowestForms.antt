@@ -1,8 +1,9 @@
 -- Laws of the greatest common divisor of a list, of limits on magnitudes, and of the lowest form.
 use Prim.Native.Nat.{ℕ, zero, suc, _+_, _*_, _/_, _≤_, _<_, _∣_, zero-le}
-use native.Mathlib.Nat.{dvd-refl, dvd-zero, dvd-trans, mul-dvd-mul-left, dvd-of-mul-dvd-mul-left, mul-div-cancel', eq-one-of-dvd-one, eq-zero-of-zero-dvd, zero-mul, div-le-self, le-trans, mul-one, mul-zero, zero-div}
+use native.Mathlib.Nat.{dvd-refl, dvd-zero, dvd-trans, mul-dvd-mul-left, dvd-of-mul-dvd-mul-left, mul-div-cancel', eq-one-of-dvd-one, eq-zero-of-zero-dvd, le-of-dvd, zero-mul, div-le-self, le-trans, mul-one, mul-zero, zero-div}
 use native.Mathlib.Omega.{arith}
 use mathlib.Core.Bool.{true, false}
+use mathlib.Core.Logic.{_⊎_, inl, inr}
 use mathlib.Core.Path.{_≡_, refl, sym, _∙_, ap, ap₂, subst}
 use mathlib.Core.List.{List, [], _∷_, map}
 use borrow.Author.Differences.{ints}
@@ -14,7 +15,7 @@ use Rattle.std.proofs.shelf.Lists.{drop-more}
 use Rattle.std.proofs.shelf.Tests.{le-leb, lt-leb, leb-true, and-parts, and-from}
 use Rattle.arith.specs.Gcd.{gcdOf}
 use Rattle.arith.specs.Dot.{dot, scaled}
-use Rattle.arith.specs.Lowest.{AllWithin, withinAll, gcdFrom, gcdAll, divided, lowestOf}
+use Rattle.arith.specs.Lowest.{AllWithin, withinAll, gcdFrom, gcdAll, divided, lowestOf, IsLowest}
 use Rattle.arith.proofs.Divisors.{gcd-is, gcd-within}
 use Rattle.arith.proofs.Integers.{abs-neg, sign-of-product, from-positive-product}
 use Rattle.arith.proofs.Dots.{dot-scaled}
@@ -192,3 +193,42 @@ unfolding lowestOf divided
 lowest-as-given zero zs h e = ap (λ m. divided m zs) e
 lowest-as-given (suc zero) zs h e = sym (map-same (λ z. quotZ z (pos 1)) zs (λ k. quot-one (getD zs k (pos 0)))) ∙ ap (λ m. divided m zs) e
 lowest-as-given (suc (suc g)) zs h e = absurd (omega arith)
+
+zero-magnitude : (z : ℤ) → 0 ∣ natAbs z → z ≡ pos 0
+zero-magnitude (pos n) h = ap pos (eq-zero-of-zero-dvd h)
+zero-magnitude (negsuc n) h = absurd (omega (arith, eq-zero-of-zero-dvd h))
+
+times-one : (zs : List ℤ) → scaled (pos 1) zs ≡ zs
+times-one zs = map-same (λ z. pos 1 *ℤ z) zs (λ k. one (getD zs k (pos 0)))
+  where
+    one : (z : ℤ) → pos 1 *ℤ z ≡ z
+    one z = omega (arith, ints)
+
+-- a common divisor of numbers in lowest form
+lowest-common : (zs : List ℤ) → gcdAll zs ≤ 1 → (d : ℕ) → ((k : ℕ) → d ∣ natAbs (getD zs k (pos 0))) → (d ≤ 1) ⊎ ((k : ℕ) → getD zs k (pos 0) ≡ pos 0)
+lowest-common zs h d a = on (gcdAll zs) refl h
+  where
+    on : (g : ℕ) → gcdAll zs ≡ g → g ≤ 1 → (d ≤ 1) ⊎ ((k : ℕ) → getD zs k (pos 0) ≡ pos 0)
+    on zero e h = inr (λ k. zero-magnitude (getD zs k (pos 0)) (subst (λ (g : ℕ). g ∣ natAbs (getD zs k (pos 0))) e (from-divides 0 zs k)))
+    on (suc zero) e h = inl (le-of-dvd (omega arith) (subst (λ (g : ℕ). d ∣ g) e (from-greatest 0 zs d (dvd-zero d) a)))
+    on (suc (suc g)) e h = absurd (omega arith)
+
+pub lowest-is : (zs : List ℤ) → IsLowest zs (lowestOf zs)
+unfolding lowestOf divided
+lowest-is zs = on (gcdAll zs) refl
+  where
+    on : (g : ℕ) → gcdAll zs ≡ g → IsLowest zs (divided (gcdAll zs) zs)
+    on zero e =
+        record {
+          factor = 1;
+          positive = omega arith;
+          multiple = times-one _ ∙ ap (λ g. divided g zs) e;
+          common = lowest-common _ (lowest-is-lowest zs);
+        }
+    on (suc g) e =
+        record {
+          factor = gcdAll zs;
+          positive = omega (arith, e);
+          multiple = lowest-back zs;
+          common = lowest-common _ (lowest-is-lowest zs);
+        }

@@ -1,11 +1,14 @@
 -- Lists of whole numbers: limits on their magnitudes, their greatest common divisor, their lowest form.
-use Prim.Native.Nat.{ℕ, zero, suc, _≤_}
+use Prim.Native.Nat.{ℕ, zero, suc, _≤_, _<_, _∣_}
 use mathlib.Core.Bool.{Bool, true, false, _&&_}
 use mathlib.Core.List.{List, [], _∷_, map}
 use lib.Dec.{leb}
 use lib.IntN.{ℤ, pos, natAbs}
 use lib.ListN.{getD}
 use lib.Signed.{quotZ}
+use mathlib.Core.Logic.{_⊎_}
+use mathlib.Core.Path.{_≡_}
+use Rattle.arith.specs.Dot.{scaled}
 use Rattle.arith.specs.Gcd.{gcdOf}
 
 -- every number has at most this magnitude
@@ -34,3 +37,11 @@ divided (suc g) zs = map (λ z. quotZ z (pos (suc g))) zs
 -- the lowest form: the numbers divided by the greatest whole number that divides them all; zeros are their own lowest form
 unfoldable pub lowestOf : List ℤ → List ℤ
 lowestOf zs = divided (gcdAll zs) zs
+
+-- What makes numbers the lowest form of others: those are a positive multiple of them, and whatever divides them all is at most 1, unless
+-- all are 0.
+pub record IsLowest (zs least : List ℤ) : Type 0 where
+  pub factor : ℕ
+  pub positive : 0 < factor
+  pub multiple : scaled (pos factor) least ≡ zs
+  pub common : (d : ℕ) → ((k : ℕ) → d ∣ natAbs (getD least k (pos 0))) → (d ≤ 1) ⊎ ((k : ℕ) → getD least k (pos 0) ≡ pos 0)

@@ -7,7 +7,7 @@ ghost use Rattle.reader.specs.Reading.{readOf};
 use reader::AcceptedDisplay;
 use reader::RefusalDisplay;
 use reader::read;
-use rows::layout::LARGEST_IMAGE;
+use rows::layout;
 use std::alloc::AllocError;
 use std::alloc::Global;
 use std::io;
@@ -26,7 +26,7 @@ fn line(heap: Global, image: &[u8]) -> Result<String, AllocError>
 fn main(rt: LibcRuntime) -> io::Result<()> {
     let mut image = Vec::new(rt.alloc());
     // One byte more than the largest image: what is longer is refused for its length, and not held whole.
-    let mut input = rt.stdin().take(LARGEST_IMAGE as u64 + 1);
+    let mut input = rt.stdin().take(layout::LARGEST_IMAGE as u64 + 1);
     input.read_to_end(&mut image)?;
     rt.println(line(rt.alloc(), &image)?)
 }

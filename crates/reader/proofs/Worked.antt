@@ -1,15 +1,16 @@
 -- Two shots worked through, over the definitions: the image of a derivation is read, and a damaged one is refused.
 use mathlib.Core.List.{List, [], _∷_}
 use mathlib.Core.Path.{_≡_, refl}
-use Prim.Native.Nat.{ℕ}
+use Prim.Native.Nat.{ℕ, zero, suc, _<_}
+use native.Mathlib.Omega.{arith}
 use lib.IntN.{ℤ, pos, negsuc}
-use lib.ListN.{length}
+use lib.ListN.{length, getD}
 use Rattle.std.specs.declared.result.Result.{Result}
 use Rattle.std.specs.declared.result.Result.the-variants.{Ok, Err}
 use Rattle.arith.specs.Dot.{combine}
 use Rattle.arith.specs.Gcd.{gcdBy, gcdOf}
 use Rattle.arith.specs.Lowest.{withinAll, gcdFrom, divided, lowestOf}
-use Rattle.rows.specs.Derivations.{Record, input, step, Derivation}
+use Rattle.rows.specs.Derivations.{Record, input, step, Stands, Derivation, IsDerivation}
 use Rattle.rows.specs.Image.{numbersIn, rowBytes, recordBytes, blockBody, sealed, headerBytes, recordsBlock, imageOf}
 use Rattle.rows.specs.Rows.{lastWith, lastPlace, levelOf, inLimit, combinationOf}
 use Rattle.reader.specs.Reading.{Reading, blockAsked, readOf}
@@ -32,6 +33,23 @@ shots v = record {
       ∷ step 2 1 1 v (row (negsuc 599) (negsuc 0) (pos 0)) ∷ step 4 5 1 1 (row (negsuc 0) (pos 0) (pos 0)) ∷ [];
 }
 
+-- it is a derivation
+stands : (r : ℕ) → r < 7 → Stands 2 (shots 2 .records) r (getD (shots 2 .records) r (input 0 []))
+unfolding shots row lastWith lastPlace levelOf inLimit combinationOf combine gcdBy gcdOf withinAll gcdFrom divided lowestOf
+stands zero h = (refl, omega arith)
+stands (suc zero) h = (refl, omega arith)
+stands (suc (suc zero)) h = (refl, omega arith)
+stands (suc (suc (suc zero))) h = (refl, omega arith)
+stands (suc (suc (suc (suc zero)))) h = (refl, omega arith)
+stands (suc (suc (suc (suc (suc zero))))) h = (refl, refl, refl)
+stands (suc (suc (suc (suc (suc (suc zero)))))) h = (refl, refl, refl)
+stands (suc (suc (suc (suc (suc (suc (suc r))))))) h = absurd (omega arith)
+
+derivation : IsDerivation (shots 2)
+unfolding shots row lastWith lastPlace levelOf
+derivation = record { some-unknowns = (omega arith, omega arith); some-records = (omega arith, omega arith); each-stands = stands; last-false = refl }
+
+-- its image is read as it is, and with another multiplier in record 5 its row is no longer the combination
 long : length (imageOf (shots 2)) ≡ 1024
 unfolding shots row imageOf headerBytes recordsBlock sealed blockBody recordBytes rowBytes
 long = refl

@@ -6,8 +6,7 @@ ghost use Rattle.reader.specs.Shown.{readingIn, viewedRecord, shownAt};
 use crate::fields::record_of;
 use crate::questions::is_input;
 use crate::refusal::Refusal;
-use rows::layout::BLOCK;
-use rows::layout::RECORDS_IN_BLOCK;
+use rows::layout;
 use std::fmt;
 
 // The bytes of the image, and what was counted in them.
@@ -56,7 +55,7 @@ impl<'a> Accepted<'a> {
     {
         let bytes = self.bytes;
         // An accepted image reaches as far as its count of records says; the type itself does not tell.
-        if r >= self.records || r / RECORDS_IN_BLOCK + 1 >= bytes.len() / BLOCK {
+        if r >= self.records || r / layout::RECORDS_IN_BLOCK + 1 >= bytes.len() / layout::BLOCK {
             return Err(Refusal::NoRecord(r));
         }
         let rec = record_of(bytes, r);

@@ -1,28 +1,21 @@
 // Where things stand in an image: its blocks, its records, and a record's row.
 ghost use mathlib.Core.Path.{_≡_};
-ghost use Prim.Native.Nat.{_+_, _*_, _/_, _<_, _≤_};
+ghost use Prim.Native.Nat.{_+_, _*_, _/_, _^_, _<_, _≤_};
 ghost use lib.ListN.{length};
-ghost use Rattle.rows.specs.Image.{blockOf, recordOf, numbersIn, countIn};
+ghost use Rattle.rows.specs.Image.{blockOf, recordOf, numbersIn, countIn, blocksFor};
 ghost use Rattle.reader.specs.Reading.{unknownsIn, recordsIn};
 use crate::bytes::i32_at;
 use crate::bytes::part;
 use crate::bytes::u16_at;
 use rows::PlainRow;
-use rows::layout::BLOCK;
-use rows::layout::COEFFICIENTS_AT;
-use rows::layout::CONSTANT_AT;
-use rows::layout::HELD_AT;
-use rows::layout::RECORD;
-use rows::layout::RECORDS_AT;
-use rows::layout::RECORDS_IN_BLOCK;
-use rows::layout::UNKNOWNS_AT;
+use rows::layout;
 
 pub(crate) fn block_of(bytes: &[u8], b: usize) -> &[u8]
     requires { ⌜ 512 * b + 512 ≤ length (now bytes) ⌝ }
     ensures whole { λ r. ⌜ now r ≡ blockOf (now (bytes .entry)) b ⌝ }
     ensures len { λ r. ⌜ length (now r) ≡ 512 ⌝ }
 {
-    part(bytes, BLOCK * b, BLOCK)
+    part(bytes, layout::BLOCK * b, layout::BLOCK)
 }
 
 pub(crate) fn record_of(bytes: &[u8], r: usize) -> &[u8]
@@ -30,11 +23,11 @@ pub(crate) fn record_of(bytes: &[u8], r: usize) -> &[u8]
     ensures whole { λ rec. ⌜ now rec ≡ recordOf (now (bytes .entry)) r ⌝ }
     ensures len { λ rec. ⌜ length (now rec) ≡ 60 ⌝ }
 {
-    let block = r / RECORDS_IN_BLOCK + 1;
+    let block = r / layout::RECORDS_IN_BLOCK + 1;
     part(
         bytes,
-        block * BLOCK + HELD_AT + RECORD * (r % RECORDS_IN_BLOCK),
-        RECORD,
+        block * layout::BLOCK + layout::HELD_AT + layout::RECORD * (r % layout::RECORDS_IN_BLOCK),
+        layout::RECORD,
     )
 }
 
@@ -44,9 +37,9 @@ pub(crate) fn row_in(rec: &[u8]) -> PlainRow
     ensures { λ row. ⌜ row .numbers ≡ numbersIn (now (rec .entry)) ⌝ }
 {
     let mut numbers = [0; 9];
-    numbers[0] = i32_at(rec, CONSTANT_AT);
+    numbers[0] = i32_at(rec, layout::CONSTANT_AT);
     for k in 1..9 {
-        numbers[k] = i32_at(rec, COEFFICIENTS_AT + 4 * (k - 1));
+        numbers[k] = i32_at(rec, layout::COEFFICIENTS_AT + 4 * (k - 1));
     }
     PlainRow { numbers }
 }
@@ -57,7 +50,15 @@ pub(crate) fn count_in(t: usize, b: usize) -> usize
     ensures is { λ r. ⌜ r ≡ countIn t b ⌝ }
     ensures few { λ r. ⌜ r ≤ 8 ⌝ }
 {
-    (t - RECORDS_IN_BLOCK * b).min(RECORDS_IN_BLOCK)
+    (t - layout::RECORDS_IN_BLOCK * b).min(layout::RECORDS_IN_BLOCK)
+}
+
+// How many blocks t records take.
+pub(crate) fn blocks_for(t: usize) -> usize
+    requires { ⌜ t < 2 ^ 16 ⌝ }
+    ensures { λ r. ⌜ r ≡ blocksFor t ⌝ }
+{
+    (t + 7) / layout::RECORDS_IN_BLOCK
 }
 
 // n, as the header has it.
@@ -65,7 +66,7 @@ pub(crate) fn unknowns_in(bytes: &[u8]) -> usize
     requires { ⌜ 512 ≤ length (now bytes) ⌝ }
     ensures { λ n. ⌜ n ≡ unknownsIn (now (bytes .entry)) ⌝ }
 {
-    u16_at(block_of(bytes, 0), UNKNOWNS_AT) as usize
+    u16_at(block_of(bytes, 0), layout::UNKNOWNS_AT) as usize
 }
 
 // t, as the header has it.
@@ -73,5 +74,5 @@ pub(crate) fn records_in(bytes: &[u8]) -> usize
     requires { ⌜ 512 ≤ length (now bytes) ⌝ }
     ensures { λ t. ⌜ t ≡ recordsIn (now (bytes .entry)) ⌝ }
 {
-    u16_at(block_of(bytes, 0), RECORDS_AT) as usize
+    u16_at(block_of(bytes, 0), layout::RECORDS_AT) as usize
 }

@@ -10,90 +10,68 @@ ghost use Rattle.reader.specs.Reading.{isLength, sealRight, frameRight, header
 use crate::bytes::u16_at;
 use crate::bytes::u32_at;
 use crate::bytes::zeros_in;
+use crate::fields::blocks_for;
 use crate::fields::record_of;
 use crate::fields::row_in;
 use rows::PlainRowPartialEq;
 use rows::ROW_LIMIT;
 use rows::Row;
 use rows::combination;
-use rows::layout::BLOCK;
-use rows::layout::COEFFICIENTS_AT;
-use rows::layout::COUNT_AT;
-use rows::layout::COUNT_END;
-use rows::layout::EDITION;
-use rows::layout::EDITION_AT;
-use rows::layout::FIRST_AT;
-use rows::layout::HELD_AT;
-use rows::layout::INPUT;
-use rows::layout::KIND_AT;
-use rows::layout::KIND_END;
-use rows::layout::LARGEST_IMAGE;
-use rows::layout::MOST_RECORDS;
-use rows::layout::MOST_UNKNOWNS;
-use rows::layout::NUMBER_AT;
-use rows::layout::RECORD;
-use rows::layout::RECORDS_AT;
-use rows::layout::ROW_END;
-use rows::layout::SEAL_AT;
-use rows::layout::SECOND_AT;
-use rows::layout::SMALLEST_IMAGE;
-use rows::layout::STEP;
-use rows::layout::U_AT;
-use rows::layout::UNKNOWNS_AT;
-use rows::layout::V_AT;
+use rows::layout;
 use rows::seal;
 
 pub(crate) fn is_length(size: usize) -> bool
     ensures { λ r. ⌜ r ≡ isLength size ⌝ }
 {
-    size >= SMALLEST_IMAGE && size <= LARGEST_IMAGE && size % BLOCK == 0
+    size >= layout::SMALLEST_IMAGE && size <= layout::LARGEST_IMAGE && size % layout::BLOCK == 0
 }
 
 pub(crate) fn seal_right(block: &[u8]) -> bool
     requires { ⌜ length (now block) ≡ 512 ⌝ }
     ensures { λ r. ⌜ r ≡ sealRight (now (block .entry)) ⌝ }
 {
-    u32_at(block, SEAL_AT) == seal(block)
+    u32_at(block, layout::SEAL_AT) == seal(block)
 }
 
 pub(crate) fn frame_right(block: &[u8], number: usize, count: usize, end: usize) -> bool
     requires { ⌜ length (now block) ≡ 512 ⌝ ∗ ⌜ end ≤ 508 ⌝ }
     ensures { λ r. ⌜ r ≡ frameRight (now (block .entry)) number count end ⌝ }
 {
-    u32_at(block, NUMBER_AT) as usize == number
-        && u16_at(block, COUNT_AT) as usize == count
-        && zeros_in(block, COUNT_END, HELD_AT)
-        && zeros_in(block, end, SEAL_AT)
+    u32_at(block, layout::NUMBER_AT) as usize == number
+        && u16_at(block, layout::COUNT_AT) as usize == count
+        && zeros_in(block, layout::COUNT_END, layout::HELD_AT)
+        && zeros_in(block, end, layout::SEAL_AT)
 }
 
 pub(crate) fn header_right(block: &[u8], size: usize) -> bool
     requires { ⌜ length (now block) ≡ 512 ⌝ }
     ensures { λ r. ⌜ r ≡ headerRight (now (block .entry)) size ⌝ }
 {
-    let n = u16_at(block, UNKNOWNS_AT);
-    let t = u16_at(block, RECORDS_AT) as usize;
-    u16_at(block, EDITION_AT) == EDITION
+    let n = u16_at(block, layout::UNKNOWNS_AT);
+    let t = u16_at(block, layout::RECORDS_AT) as usize;
+    u16_at(block, layout::EDITION_AT) == layout::EDITION
         && 1 <= n
-        && n <= MOST_UNKNOWNS
+        && n <= layout::MOST_UNKNOWNS
         && 1 <= t
-        && t <= MOST_RECORDS
-        && size == BLOCK * (1 + (t + 7) / 8)
+        && t <= layout::MOST_RECORDS
+        && size == layout::BLOCK * (1 + blocks_for(t))
 }
 
 pub(crate) fn is_input(rec: &[u8]) -> bool
     requires { ⌜ length (now rec) ≡ 60 ⌝ }
     ensures { λ r. ⌜ r ≡ isInput (now (rec .entry)) ⌝ }
 {
-    rec[KIND_AT] == INPUT
+    rec[layout::KIND_AT] == layout::INPUT
 }
 
 pub(crate) fn kind_right(rec: &[u8]) -> bool
     requires { ⌜ length (now rec) ≡ 60 ⌝ }
     ensures { λ r. ⌜ r ≡ kindRight (now (rec .entry)) ⌝ }
 {
-    ((is_input(rec) && zeros_in(rec, SECOND_AT, COEFFICIENTS_AT)) || rec[KIND_AT] == STEP)
-        && zeros_in(rec, KIND_END, FIRST_AT)
-        && zeros_in(rec, ROW_END, RECORD)
+    ((is_input(rec) && zeros_in(rec, layout::SECOND_AT, layout::COEFFICIENTS_AT))
+        || rec[layout::KIND_AT] == layout::STEP)
+        && zeros_in(rec, layout::KIND_END, layout::FIRST_AT)
+        && zeros_in(rec, layout::ROW_END, layout::RECORD)
 }
 
 // The row is in its limits, zero past an and in lowest form.
@@ -118,10 +96,10 @@ fn are_parents(rec: &[u8], r: usize) -> bool
     requires { ⌜ length (now rec) ≡ 60 ⌝ }
     ensures { λ b. ⌜ b ≡ areParents r (firstIn (now (rec .entry))) (secondIn (now (rec .entry))) (uIn (now (rec .entry))) (vIn (now (rec .entry))) ⌝ }
 {
-    let u = u32_at(rec, U_AT);
-    let v = u32_at(rec, V_AT);
-    (u16_at(rec, FIRST_AT) as usize) < r
-        && (u16_at(rec, SECOND_AT) as usize) < r
+    let u = u32_at(rec, layout::U_AT);
+    let v = u32_at(rec, layout::V_AT);
+    (u16_at(rec, layout::FIRST_AT) as usize) < r
+        && (u16_at(rec, layout::SECOND_AT) as usize) < r
         && u <= ROW_LIMIT
         && v <= ROW_LIMIT
         && u + v > 0
@@ -135,9 +113,14 @@ pub(crate) fn combination_right(bytes: &[u8], rec: &[u8], r: usize) -> bool
     if is_input(rec) {
         return true;
     }
-    let first = row_in(record_of(bytes, u16_at(rec, FIRST_AT) as usize));
-    let second = row_in(record_of(bytes, u16_at(rec, SECOND_AT) as usize));
-    match combination(u32_at(rec, U_AT), &first, u32_at(rec, V_AT), &second) {
+    let first = row_in(record_of(bytes, u16_at(rec, layout::FIRST_AT) as usize));
+    let second = row_in(record_of(bytes, u16_at(rec, layout::SECOND_AT) as usize));
+    match combination(
+        u32_at(rec, layout::U_AT),
+        &first,
+        u32_at(rec, layout::V_AT),
+        &second,
+    ) {
         Some(row) => row.plain() == row_in(rec),
         None => false,
     }

@@ -9,6 +9,7 @@ ghost use Rattle.reader.specs.Reading.{headerAsked, recordAsked, frameAsked, b
 ghost use Rattle.reader.specs.Shown.{readingIn, viewed, ShowsAll};
 use crate::accepted::Accepted;
 use crate::fields::block_of;
+use crate::fields::blocks_for;
 use crate::fields::count_in;
 use crate::fields::record_of;
 use crate::fields::records_in;
@@ -24,10 +25,7 @@ use crate::questions::parents_right;
 use crate::questions::row_right;
 use crate::questions::seal_right;
 use crate::refusal::Refusal;
-use rows::layout::HEADER_END;
-use rows::layout::HELD_AT;
-use rows::layout::RECORD;
-use rows::layout::RECORDS_IN_BLOCK;
+use rows::layout;
 
 fn ask(yes: bool, refusal: Refusal) -> Result<(), Refusal>
     ensures { λ r. ⌜ r ≡ asked yes refusal ⌝ }
@@ -42,7 +40,10 @@ fn ask_header(bytes: &[u8]) -> Result<(), Refusal>
 {
     let block = block_of(bytes, 0);
     ask(seal_right(block), Refusal::Seal(0))?;
-    ask(frame_right(block, 0, 0, HEADER_END), Refusal::Frame(0))?;
+    ask(
+        frame_right(block, 0, 0, layout::HEADER_END),
+        Refusal::Frame(0),
+    )?;
     ask(header_right(block, bytes.len()), Refusal::Header)
 }
 
@@ -63,7 +64,7 @@ fn ask_records(bytes: &[u8], n: usize, b: usize, count: usize) -> Result<(), Ref
     ensures { λ o. ⌜ o ≡ forEach (λ c. recordAsked (now (bytes .entry)) n (8 * b + c)) count ⌝ }
 {
     for c in 0..count {
-        ask_record(bytes, n, RECORDS_IN_BLOCK * b + c)?;
+        ask_record(bytes, n, layout::RECORDS_IN_BLOCK * b + c)?;
     }
     Ok(())
 }
@@ -77,7 +78,12 @@ fn ask_frame(bytes: &[u8], t: usize, b: usize) -> Result<(), Refusal>
     let count = count_in(t, b);
     ask(seal_right(block), Refusal::Seal(b + 1))?;
     ask(
-        frame_right(block, b + 1, count, HELD_AT + RECORD * count),
+        frame_right(
+            block,
+            b + 1,
+            count,
+            layout::HELD_AT + layout::RECORD * count,
+        ),
         Refusal::Frame(b + 1),
     )
 }
@@ -95,7 +101,7 @@ fn ask_blocks(bytes: &[u8], n: usize, t: usize) -> Result<(), Refusal>
     requires { ⌜ 512 * (1 + blocksFor t) ≤ length (now bytes) ⌝ ∗ ⌜ t ≤ 256 ⌝ }
     ensures { λ o. ⌜ o ≡ forEach (blockAsked (now (bytes .entry)) n t) (blocksFor t) ⌝ }
 {
-    for b in 0..(t + 7) / 8 {
+    for b in 0..blocks_for(t) {
         ask_block(bytes, n, t, b)?;
     }
     Ok(())

@@ -5,7 +5,7 @@
 use mathlib.Core.Bool.{Bool, true, false, cond, _&&_}
 use mathlib.Core.List.{List, [], _∷_}
 use mathlib.Core.Path.{_≡_}
-use Prim.Native.Nat.{ℕ, zero, suc, _^_}
+use Prim.Native.Nat.{ℕ, zero, suc, _^_, _<_}
 use lib.Dec.{eqb, leb}
 use lib.IntN.{ℤ, pos, negsuc}
 use lib.ListN.{getD, length}
@@ -54,6 +54,11 @@ lastPlace (z ∷ zs) = lastWith z (lastPlace zs)
 unfoldable pub levelOf : List ℤ → ℕ
 levelOf [] = 0
 levelOf (b ∷ coefficients) = lastPlace coefficients
+
+-- what makes a number the level: the coefficients past it are 0, and its own, if it is not 0, is not
+pub record IsLevel (row : List ℤ) (k : ℕ) : Type 0 where
+  pub past : (j : ℕ) → k < j → getD row j (pos 0) ≡ pos 0
+  pub own : 0 < k → getD row k (pos 0) ≡ pos 0 → ⊥
 
 -- numbers within the limit and in lowest form: no whole number above 1 divides them all
 abbrev pub inLowest : List ℤ → Bool

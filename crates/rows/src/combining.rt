@@ -7,7 +7,7 @@ ghost use lib.IntN.{ℤ};
 ghost use Rattle.std.specs.Options.{mapped};
 ghost use Rattle.std.specs.Slices.{found};
 ghost use Rattle.std.specs.declared.option.Option.the-variants.{None};
-ghost use Rattle.rows.specs.Rows.{combinationOf, Fractions, Satisfies};
+ghost use Rattle.rows.specs.Rows.{combinationOf, Satisfies};
 use crate::numbers::combined;
 use crate::plain::PlainRow;
 use crate::row::ROW_LIMIT;

@@ -3,7 +3,7 @@ ghost use mathlib.Core.Path.{_≡_};
 ghost use Prim.Native.Nat.{_≤_, _^_};
 ghost use lib.IntN.{pos, _+ℤ_, _*ℤ_, natAbs};
 ghost use Rattle.arith.specs.Dot.{dot, combine};
-ghost use Rattle.arith.specs.Lowest.{AllWithin, withinAll, gcdAll, lowestOf};
+ghost use Rattle.arith.specs.Lowest.{AllWithin, withinAll, gcdAll, lowestOf, IsLowest};
 ghost use Rattle.rows.specs.Rows.{sameNumbers};
 use arith::gcd;
 
@@ -46,6 +46,7 @@ pub(crate) fn lowest(numbers: [i64; 9]) -> [i64; 9]
     requires { ⌜ AllWithin (2 ^ 53) numbers ⌝ }
     ensures is { λ r. ⌜ r ≡ lowestOf numbers ⌝ }
     ensures least { λ r. ⌜ gcdAll r ≤ 1 ⌝ }
+    ensures lowest { λ r. ⌜ IsLowest numbers r ⌝ }
 {
     let g = gcd_all(&numbers);
     if g <= 1 {

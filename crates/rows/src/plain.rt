@@ -1,6 +1,6 @@
 // A row's numbers, whatever they are.
 ghost use mathlib.Core.Path.{_≡_};
-ghost use Rattle.rows.specs.Rows.{levelOf, isFalse, sameNumbers};
+ghost use Rattle.rows.specs.Rows.{levelOf, IsLevel, isFalse, sameNumbers};
 use crate::numbers::same_numbers;
 
 // The constant b and then a1 to a8; with n unknowns those past an are 0.
@@ -12,7 +12,8 @@ pub struct PlainRow {
 impl PlainRow {
     // The greatest k for which ak is not 0, or 0.
     pub fn level(&self) -> usize
-        ensures { λ r. ⌜ r ≡ levelOf (now (self .entry) .numbers) ⌝ }
+        ensures value { λ r. ⌜ r ≡ levelOf (now (self .entry) .numbers) ⌝ }
+        ensures greatest { λ r. ⌜ IsLevel (now (self .entry) .numbers) r ⌝ }
     {
         last_place(&self.numbers)
     }
@@ -37,7 +38,8 @@ pub impl Eq for PlainRow as PlainRowEq {}
 
 // The place of the last number that is not 0, but for the first number.
 fn last_place(numbers: &[i32; 9]) -> usize
-    ensures { λ r. ⌜ r ≡ levelOf (now (numbers .entry)) ⌝ }
+    ensures value { λ r. ⌜ r ≡ levelOf (now (numbers .entry)) ⌝ }
+    ensures greatest { λ r. ⌜ IsLevel (now (numbers .entry)) r ⌝ }
 {
     let mut last = 0;
     for k in 1..9 {

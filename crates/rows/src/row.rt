@@ -5,7 +5,7 @@ ghost use Prim.Native.Nat.{_≤_, _^_};
 ghost use Rattle.std.specs.Options.{mapped};
 ghost use Rattle.std.specs.declared.option.Option.the-variants.{Some, None};
 ghost use Rattle.arith.specs.Lowest.{AllWithin, gcdAll};
-ghost use Rattle.rows.specs.Rows.{worthOf, isTrue, levelOf, asRow, inLimit, rowOf};
+ghost use Rattle.rows.specs.Rows.{worthOf, isTrue, levelOf, IsLevel, asRow, inLimit, rowOf};
 use crate::numbers::gcd_all;
 use crate::numbers::lowest;
 use crate::numbers::narrowed;
@@ -60,7 +60,8 @@ impl Row {
     }
 
     pub fn level(&self) -> usize
-        ensures { λ r. ⌜ r ≡ levelOf (now (self .entry) .plain .numbers) ⌝ }
+        ensures value { λ r. ⌜ r ≡ levelOf (now (self .entry) .plain .numbers) ⌝ }
+        ensures greatest { λ r. ⌜ IsLevel (now (self .entry) .plain .numbers) r ⌝ }
     {
         PlainRow::level(&self.plain)
     }

@@ -36,21 +36,36 @@ fn show(accepted: &Accepted) -> Shown {
         match accepted.record(r) {
             Ok(Record::Input(_)) => inputs = inputs.saturating_add(1),
             Ok(Record::Step(_)) => steps = steps.saturating_add(1),
-            Err(past) => return Shown { inputs, steps, past },
+            Err(past) => return Shown {
+                inputs,
+                steps,
+                past,
+            },
         }
     }
     let past = match accepted.record(accepted.records()) {
         Ok(_) => Refusal::Length,
         Err(refusal) => refusal,
     };
-    Shown { inputs, steps, past }
+    Shown {
+        inputs,
+        steps,
+        past,
+    }
 }
 
 fn show_records(rt: &LibcRuntime, name: &str) -> Result<(), AnyError> {
     let bytes = image(rt, name)?;
     if let Ok(accepted) = read(&bytes) {
-        let Shown { inputs, steps, past } = show(&accepted);
-        println!(rt, "{name} shows {inputs} inputs and {steps} steps, then {past}")?;
+        let Shown {
+            inputs,
+            steps,
+            past,
+        } = show(&accepted);
+        println!(
+            rt,
+            "{name} shows {inputs} inputs and {steps} steps, then {past}"
+        )?;
     }
     Ok(())
 }

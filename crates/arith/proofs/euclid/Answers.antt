@@ -1,3 +1,4 @@
+-- A turn keeps the divisor, and the last one leaves it.
 use mathlib.Core.Path.{_≡_, sym, _∙_, subst}
 use native.Mathlib.Omega.{arith}
 use Prim.Native.Nat.{ℕ}

@@ -1,3 +1,4 @@
+-- What is left has the same divisor.
 use mathlib.Core.Path.{_≡_}
 use Rattle.arith.specs.Gcd.{gcdOf}
 use Rattle.arith.proofs.euclid.Given as given

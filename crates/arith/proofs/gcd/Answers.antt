@@ -1,3 +1,4 @@
+-- The divisors of 1.
 use mathlib.Core.Path.{_≡_, sym, _∙_, ap, subst}
 use Prim.Native.Nat.{ℕ}
 use Rattle.arith.specs.Gcd.{gcdOf, IsGcd}

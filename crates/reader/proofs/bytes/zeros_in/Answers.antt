@@ -1,3 +1,4 @@
+-- One byte more: it is zero, or the answer is no.
 use mathlib.Core.Path.{sym, _∙_}
 use native.Mathlib.Omega.{arith}
 use Rattle.reader.proofs.Zeros.{zeros-yes, zeros-no}

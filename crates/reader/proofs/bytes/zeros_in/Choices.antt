@@ -1,3 +1,4 @@
+-- What is left to look at decides.
 use mathlib.Core.Path.{_≡_}
 use Rattle.rows.specs.Bytes.{zerosIn}
 use Rattle.reader.proofs.bytes.zeros_in.Given as given

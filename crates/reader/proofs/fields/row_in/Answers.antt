@@ -1,3 +1,4 @@
+-- One number more, from its place in the record.
 use borrow.Author.Count.{below-more}
 use native.Mathlib.Omega.{arith}
 use mathlib.Core.Logic.{_≢_}

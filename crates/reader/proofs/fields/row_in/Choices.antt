@@ -1,3 +1,4 @@
+-- The numbers read so far.
 use Prim.Native.Nat.{ℕ, _<_}
 use mathlib.Core.Path.{_≡_}
 use lib.IntN.{pos}

@@ -1,3 +1,4 @@
+-- The bytes reach as far as the records.
 use borrow.Author.Needs.{needs}
 use mathlib.Core.Path.{_≡_, sym, subst}
 use Rattle.reader.specs.Reading.{Reading, readingOf}

@@ -1,3 +1,4 @@
+-- The frame first, then the records.
 use mathlib.Core.Path.{_≡_, sym, _∙_, ap}
 use Prim.Native.Nat.{ℕ, _+_, _*_}
 use Rattle.std.proofs.shelf.Results.{err-from-errBy}

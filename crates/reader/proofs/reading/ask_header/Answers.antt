@@ -1,3 +1,4 @@
+-- A right header says how far the bytes reach.
 use borrow.Author.Needs.{needs}
 use mathlib.Core.Path.{_≡_, ap, _∙_}
 use lib.ListN.{length}

@@ -1,3 +1,4 @@
+-- Every answer so far was yes.
 use mathlib.Core.Path.{_≡_}
 use Prim.Native.Nat.{_+_, _*_}
 use Rattle.std.specs.declared.result.Result.the-variants.{Ok}

@@ -1,3 +1,4 @@
+-- The inputs among the records so far.
 use mathlib.Core.Path.{_≡_}
 use Prim.Native.Nat.{_≤_}
 use Rattle.reader.specs.Reading.{inputsBelow}

@@ -13,14 +13,21 @@ use mir.Val.{SFits, toZ}
 use Rattle.std.proofs.shelf.Signed.{toZ-ofZ}
 use Rattle.std.proofs.shelf.Lists.{getD-default, take-all, drop-all}
 use Rattle.std.proofs.shelf.Edits.{map-over-more}
-use Rattle.arith.specs.Lowest.{AllWithin, gcdAll, lowestOf}
-use Rattle.arith.proofs.LowestForms.{from-within, lowest-by, lowest-as-given, lowest-is-lowest}
+use Rattle.arith.specs.Lowest.{AllWithin, gcdAll, lowestOf, IsLowest}
+use Rattle.arith.proofs.LowestForms.{from-within, lowest-by, lowest-as-given, lowest-is-lowest, lowest-is}
 use Rattle.rows.proofs.Widths.{quot-fits}
 use Rattle.rows.proofs.numbers.lowest.Needs as need
 
+-- the clauses of numbers that are the lowest form
+lowest-clauses : (zs least : List ℤ) → least ≡ lowestOf zs → (gcdAll least ≤ 1) × IsLowest zs least
+lowest-clauses zs least e =
+    (subst (λ (xs : List ℤ). gcdAll xs ≤ 1) (sym e) (lowest-is-lowest zs), subst (IsLowest zs) (sym e) (lowest-is zs))
+
 pub returns-then-g-le1 : need.returns-then-g-le1
 returns-then-g-le1 c =
-    record { is = lowest-as-given (c .gcd-all-g .result) (c .args .numbers) (c .if-g-le1 .taken) (c .gcd-all-g .ensures); least = search needs }
+    let is = lowest-as-given (c .gcd-all-g .result) (c .args .numbers) (c .if-g-le1 .taken) (c .gcd-all-g .ensures) in
+    let both = lowest-clauses (c .args .numbers) (c .args .numbers) is in
+    record { is = is; least = both .0; lowest = both .1 }
 
 -- the divisor is within the limit of the numbers
 small : (g : ℕ) (zs : List ℤ) → g ≡ gcdAll zs → AllWithin (2 ^ 53) zs → toZ w64 g ≡ pos g
@@ -56,4 +63,5 @@ returns c =
     let t = take-all (c .loop-x .x-index) (c .args .numbers) (omega arith) in
     let d = drop-all (c .loop-x .x-index) (c .args .numbers) (omega arith) in
     let is : c .loop-x .x-items ≡ lowestOf (c .args .numbers) = simp (t, d, e, append-nil) at (c .loop-x .inv) ∙ lowest-by (c .gcd-all-g .result) (c .args .numbers) n (c .gcd-all-g .ensures) in
-    record { is = is; least = subst (λ (zs : List ℤ). gcdAll zs ≤ 1) (sym is) (lowest-is-lowest (c .args .numbers)) }
+    let both = lowest-clauses (c .args .numbers) (c .loop-x .x-items) is in
+    record { is = is; least = both .0; lowest = both .1 }

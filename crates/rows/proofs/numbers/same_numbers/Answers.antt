@@ -1,3 +1,4 @@
+-- One place more: it is the same, or the answer is no.
 use borrow.Author.Needs.{needs}
 use native.Mathlib.Omega.{arith}
 use mathlib.Core.Path.{_≡_, sym, ap₂, _∙_}

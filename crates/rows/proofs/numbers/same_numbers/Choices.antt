@@ -1,3 +1,4 @@
+-- What is left to compare decides.
 use mathlib.Core.Path.{_≡_}
 use lib.ListN.{drop}
 use Rattle.rows.specs.Rows.{sameNumbers}

@@ -1,14 +1,14 @@
 -- One place more, with 0 or another number.
 use borrow.Author.Needs.{needs}
 use native.Mathlib.Omega.{arith}
-use mathlib.Core.Path.{sym, _∙_, ap}
+use mathlib.Core.Path.{sym, _∙_, ap, subst}
 use lib.IntN.{pos}
 use lib.ListN.{getD}
 use mir.Syntax.{w32}
 use mir.Val.{SFits, ofZ}
 use Rattle.std.proofs.shelf.Lists.{take-all}
-use Rattle.rows.specs.Rows.{levelOf}
-use Rattle.rows.proofs.Levels.{level-none, level-more, level-same}
+use Rattle.rows.specs.Rows.{levelOf, IsLevel}
+use Rattle.rows.proofs.Levels.{level-none, level-more, level-same, level-is}
 use Rattle.rows.proofs.Widths.{zero-bits}
 use Rattle.rows.proofs.plain.last_place.Needs as need
 use Rattle.rows.proofs.plain.last_place.Needs.{then-numbers-k-ne0, else-numbers-k-ne0}
@@ -25,4 +25,6 @@ loop-k-again c =
     ]
 
 pub returns : need.returns
-returns c = c .loop-k .inv ∙ ap levelOf (take-all (c .loop-k .k) (c .args .numbers .now) (omega arith))
+returns c =
+    let value = c .loop-k .inv ∙ ap levelOf (take-all (c .loop-k .k) (c .args .numbers .now) (omega arith)) in
+    record { value = value; greatest = subst (IsLevel (c .args .numbers .now)) (sym value) (level-is (c .args .numbers .now)) }
