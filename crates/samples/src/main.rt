@@ -2,7 +2,6 @@
 use reader::Accepted;
 use reader::AcceptedDisplay;
 use reader::Record;
-use reader::Refusal;
 use reader::RefusalDisplay;
 use reader::read;
 use std::error::AnyError;
@@ -21,51 +20,29 @@ fn answer(rt: &LibcRuntime, name: &str) -> Result<(), AnyError> {
     Ok(())
 }
 
-// What the records of an image are, and the refusal of the one after the last.
-#[derive(Drop)]
-struct Shown {
-    inputs: usize,
-    steps: usize,
-    past: Refusal,
-}
-
-fn show(accepted: &Accepted) -> Shown {
+// How many of the records are inputs and how many are steps, as they are shown one by one.
+fn shown(accepted: &Accepted) -> (usize, usize) {
     let mut inputs = 0usize;
     let mut steps = 0usize;
     for r in 0..accepted.records() {
         match accepted.record(r) {
             Ok(Record::Input(_)) => inputs = inputs.saturating_add(1),
             Ok(Record::Step(_)) => steps = steps.saturating_add(1),
-            Err(past) => return Shown {
-                inputs,
-                steps,
-                past,
-            },
+            Err(_) => {}
         }
     }
-    let past = match accepted.record(accepted.records()) {
-        Ok(_) => Refusal::Length,
-        Err(refusal) => refusal,
-    };
-    Shown {
-        inputs,
-        steps,
-        past,
-    }
+    (inputs, steps)
 }
 
-fn show_records(rt: &LibcRuntime, name: &str) -> Result<(), AnyError> {
+fn show(rt: &LibcRuntime, name: &str) -> Result<(), AnyError> {
     let bytes = image(rt, name)?;
     if let Ok(accepted) = read(&bytes) {
-        let Shown {
-            inputs,
-            steps,
-            past,
-        } = show(&accepted);
-        println!(
-            rt,
-            "{name} shows {inputs} inputs and {steps} steps, then {past}"
-        )?;
+        let (inputs, steps) = shown(&accepted);
+        print!(rt, "{name} shows {inputs} inputs and {steps} steps, then ")?;
+        match accepted.record(accepted.records()) {
+            Ok(_) => println!(rt, "one more")?,
+            Err(refusal) => println!(rt, "{refusal}")?,
+        }
     }
     Ok(())
 }
@@ -79,7 +56,7 @@ fn main(rt: LibcRuntime) -> Result<(), AnyError> {
     }
     for line in lines.as_str().lines() {
         if let Some((name, _)) = line.split_once(' ') {
-            show_records(&rt, name)?;
+            show(&rt, name)?;
         }
     }
     Ok(())
