@@ -37,21 +37,12 @@ unfolding gcdFrom
 from-greatest g [] d h a = h
 from-greatest g (z ∷ zs) d h a = from-greatest (gcdOf g (natAbs z)) zs d (gcd-is g (natAbs z) .greatest d h (a zero)) (λ k. a (suc k))
 
--- from 1 on, nothing changes it
-pub from-one : (zs : List ℤ) → gcdFrom 1 zs ≡ 1
-from-one zs = eq-one-of-dvd-one (from-divides-start 1 zs)
-
 pub from-within : (g m : ℕ) (zs : List ℤ) → g ≤ m → AllWithin m zs → gcdFrom g zs ≤ m
 unfolding gcdFrom
 from-within g m [] h a = h
 from-within g m (z ∷ zs) h a = from-within (gcdOf g (natAbs z)) m zs (gcd-within g (natAbs z) m h (a zero)) (λ k. a (suc k))
 
--- limits: past the end of the list there is nothing to test
-pub within-all : (m : ℕ) (zs : List ℤ) → ((k : ℕ) → k < length zs → natAbs (getD zs k (pos 0)) ≤ m) → AllWithin m zs
-within-all m [] h k = zero-le
-within-all m (z ∷ zs) h zero = h zero (omega arith)
-within-all m (z ∷ zs) h (suc k) = within-all m zs (λ j l. h (suc j) (omega arith)) k
-
+-- limits: the test and what it says
 pub within-is : (m : ℕ) (zs : List ℤ) → withinAll m zs ≡ true → AllWithin m zs
 unfolding withinAll
 within-is m [] e k = zero-le
