@@ -1,6 +1,6 @@
 -- Laws of the greatest common divisor of a list, of limits on magnitudes, and of the lowest form.
 use Prim.Native.Nat.{ℕ, zero, suc, _+_, _*_, _/_, _≤_, _<_, _∣_, zero-le}
-use native.Mathlib.Nat.{dvd-refl, dvd-zero, dvd-trans, mul-dvd-mul-left, dvd-of-mul-dvd-mul-left, mul-div-cancel', eq-one-of-dvd-one, eq-zero-of-zero-dvd, le-of-dvd, zero-mul, div-le-self, le-trans, mul-one, mul-zero, zero-div}
+use native.Mathlib.Nat.{dvd-refl, dvd-zero, dvd-trans, mul-dvd-mul-left, dvd-of-mul-dvd-mul-left, mul-div-cancel', eq-one-of-dvd-one, eq-zero-of-zero-dvd, le-of-dvd, div-le-self, le-trans, mul-one, mul-zero, zero-div}
 use native.Mathlib.Omega.{arith}
 use mathlib.Core.Bool.{true, false}
 use mathlib.Core.Logic.{_⊎_, inl, inr}
@@ -85,9 +85,12 @@ pub times-quot : (z : ℤ) (g : ℕ) → g ∣ natAbs z → pos g *ℤ quotZ z (
 times-quot (pos n) g h = ap pos (mul-div-cancel' g h)
 times-quot (negsuc n) g h = times-neg g (suc n / g) ∙ ap (λ k. negℤ (pos k)) (mul-div-cancel' g h)
 
+zero-magnitude : (z : ℤ) → 0 ∣ natAbs z → z ≡ pos 0
+zero-magnitude (pos n) h = ap pos (eq-zero-of-zero-dvd h)
+zero-magnitude (negsuc n) h = absurd (omega (arith, eq-zero-of-zero-dvd h))
+
 times-zero : (z : ℤ) → 0 ∣ natAbs z → pos 0 *ℤ z ≡ z
-times-zero (pos n) h = ap pos (zero-mul n ∙ sym (eq-zero-of-zero-dvd h))
-times-zero (negsuc n) h = absurd (omega (arith, eq-zero-of-zero-dvd h))
+times-zero z h = let e = zero-magnitude z h in ap (λ x. pos 0 *ℤ x) e ∙ sym e
 
 quot-zero : (g : ℕ) → quotZ (pos 0) (pos g) ≡ pos 0
 quot-zero g = ap pos (zero-div g)
@@ -184,10 +187,6 @@ unfolding lowestOf divided
 lowest-as-given zero zs h e = ap (λ m. divided m zs) e
 lowest-as-given (suc zero) zs h e = sym (map-same (λ z. quotZ z (pos 1)) zs (λ k. quot-one (getD zs k (pos 0)))) ∙ ap (λ m. divided m zs) e
 lowest-as-given (suc (suc g)) zs h e = absurd (omega arith)
-
-zero-magnitude : (z : ℤ) → 0 ∣ natAbs z → z ≡ pos 0
-zero-magnitude (pos n) h = ap pos (eq-zero-of-zero-dvd h)
-zero-magnitude (negsuc n) h = absurd (omega (arith, eq-zero-of-zero-dvd h))
 
 times-one : (zs : List ℤ) → scaled (pos 1) zs ≡ zs
 times-one zs = map-same (λ z. pos 1 *ℤ z) zs (λ k. one (getD zs k (pos 0)))

@@ -1,6 +1,6 @@
 -- Lists of whole numbers: limits on their magnitudes, their greatest common divisor, their lowest form.
 use Prim.Native.Nat.{ℕ, zero, suc, _≤_, _<_, _∣_}
-use mathlib.Core.Bool.{Bool, true, false, _&&_}
+use mathlib.Core.Bool.{Bool, true, _&&_}
 use mathlib.Core.List.{List, [], _∷_, map}
 use lib.Dec.{leb}
 use lib.IntN.{ℤ, pos, natAbs}

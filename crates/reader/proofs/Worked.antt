@@ -5,16 +5,14 @@ use Prim.Native.Nat.{ℕ, zero, suc, _<_}
 use native.Mathlib.Omega.{arith}
 use lib.IntN.{ℤ, pos, negsuc}
 use lib.ListN.{length, getD}
-use Rattle.std.specs.declared.result.Result.{Result}
 use Rattle.std.specs.declared.result.Result.the-variants.{Ok, Err}
 use Rattle.arith.specs.Dot.{combine}
 use Rattle.arith.specs.Gcd.{gcdBy, gcdOf}
 use Rattle.arith.specs.Lowest.{withinAll, gcdFrom, divided, lowestOf}
-use Rattle.rows.specs.Derivations.{Record, input, step, Stands, Derivation, IsDerivation}
+use Rattle.rows.specs.Derivations.{input, step, Stands, Derivation, IsDerivation}
 use Rattle.rows.specs.Image.{numbersIn, rowBytes, recordBytes, blockBody, sealed, headerBytes, recordsBlock, imageOf}
 use Rattle.rows.specs.Rows.{lastWith, lastPlace, levelOf, inLimit, combinationOf}
-use Rattle.reader.specs.Reading.{Reading, blockAsked, readOf}
-use Rattle.reader.specs.declared.refusal.Refusal.{Refusal}
+use Rattle.reader.specs.Reading.{blockAsked, readOf}
 use Rattle.reader.specs.declared.refusal.Refusal.the-variants.{Combination}
 
 -- b + a1·x1 + a2·x2 ≥ 0

@@ -1,7 +1,8 @@
 -- What each refusal tells: its number, the layer that it concerns, and the block and the record where one applies.
-use Prim.Native.Nat.{ℕ, _+_, _/_}
+use Prim.Native.Nat.{ℕ}
 use Rattle.std.specs.declared.option.Option.{Option}
 use Rattle.std.specs.declared.option.Option.the-variants.{Some, None}
+use Rattle.rows.specs.Image.{blockWith}
 use Rattle.reader.specs.declared.refusal.Layer.{Layer}
 use Rattle.reader.specs.declared.refusal.Layer.the-variants as layer
 use Rattle.reader.specs.declared.refusal.Refusal.{Refusal}
@@ -31,17 +32,17 @@ layerOf (Combination r) = layer.Step
 layerOf (NotFalse r) = layer.Record
 layerOf (NoRecord r) = layer.Record
 
--- the block that is concerned; record r stands in block r/8 + 1
+-- the block that is concerned; that of a record is the one in which it stands
 abbrev pub blockIn : Refusal → Option ℕ
 blockIn Length = None
 blockIn (Seal b) = Some b
 blockIn (Frame b) = Some b
 blockIn Header = Some 0
-blockIn (Kind r) = Some (r / 8 + 1)
-blockIn (Row r) = Some (r / 8 + 1)
-blockIn (Parents r) = Some (r / 8 + 1)
-blockIn (Combination r) = Some (r / 8 + 1)
-blockIn (NotFalse r) = Some (r / 8 + 1)
+blockIn (Kind r) = Some (blockWith r)
+blockIn (Row r) = Some (blockWith r)
+blockIn (Parents r) = Some (blockWith r)
+blockIn (Combination r) = Some (blockWith r)
+blockIn (NotFalse r) = Some (blockWith r)
 blockIn (NoRecord r) = None
 
 -- the record that is concerned, counted through all blocks

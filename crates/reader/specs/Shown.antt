@@ -2,13 +2,13 @@
 use mathlib.Core.Bool.{true, cond, _&&_}
 use mathlib.Core.List.{List}
 use mathlib.Core.Path.{_≡_}
-use Prim.Native.Nat.{ℕ, _+_, _/_, _<_}
+use Prim.Native.Nat.{ℕ, _/_, _<_}
 use lib.Dec.{ltb}
 use lib.ListN.{length}
 use Rattle.std.specs.Results.{isOk}
 use Rattle.std.specs.declared.result.Result.{Result}
 use Rattle.std.specs.declared.result.Result.the-variants.{Ok, Err}
-use Rattle.rows.specs.Image.{recordOf}
+use Rattle.rows.specs.Image.{blockWith, recordOf}
 use Rattle.reader.specs.Reading.{Reading, isInput}
 use Rattle.reader.specs.declared.accepted.Accepted.{Accepted}
 use Rattle.reader.specs.declared.accepted.Record.{Record}
@@ -39,7 +39,7 @@ viewedRecord (Err e) = Err e
 -- record r, if it is below the count of records and the image reaches so far, as an accepted one does
 abbrev pub shownAt : Reading → ℕ → Result Shown Refusal
 shownAt reading r =
-    cond (ltb r (reading .records) && ltb (r / 8 + 1) (length (reading .image) / 512))
+    cond (ltb r (reading .records) && ltb (blockWith r) (length (reading .image) / 512))
     (cond (isInput (recordOf (reading .image) r)) (Ok (input (recordOf (reading .image) r))) (Ok (step (recordOf (reading .image) r))))
     (Err (NoRecord r))
 

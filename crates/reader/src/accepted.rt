@@ -3,6 +3,7 @@ ghost use mathlib.Core.Path.{_≡_};
 ghost use Rattle.std.specs.declared.option.Option.the-variants.{Some};
 ghost use Rattle.reader.specs.Lines.{acceptedLine};
 ghost use Rattle.reader.specs.Shown.{readingIn, viewedRecord, shownAt};
+use crate::fields::block_with;
 use crate::fields::record_of;
 use crate::questions::is_input;
 use crate::refusal::Refusal;
@@ -55,7 +56,7 @@ impl<'a> Accepted<'a> {
     {
         let bytes = self.bytes;
         // An accepted image reaches as far as its count of records says; the type itself does not tell.
-        if r >= self.records || r / layout::RECORDS_IN_BLOCK + 1 >= bytes.len() / layout::BLOCK {
+        if r >= self.records || block_with(r) >= bytes.len() / layout::BLOCK {
             return Err(Refusal::NoRecord(r));
         }
         let rec = record_of(bytes, r);

@@ -2,7 +2,7 @@
 ghost use mathlib.Core.Path.{_≡_};
 ghost use Prim.Native.Nat.{_+_, _*_, _/_, _^_, _<_, _≤_};
 ghost use lib.ListN.{length};
-ghost use Rattle.rows.specs.Image.{blockOf, recordOf, numbersIn, countIn, blocksFor};
+ghost use Rattle.rows.specs.Image.{blockOf, blockWith, recordOf, numbersIn, countIn, blocksFor};
 ghost use Rattle.reader.specs.Reading.{unknownsIn, recordsIn};
 use crate::bytes::i32_at;
 use crate::bytes::part;
@@ -18,17 +18,20 @@ pub(crate) fn block_of(bytes: &[u8], b: usize) -> &[u8]
     part(bytes, layout::BLOCK * b, layout::BLOCK)
 }
 
+// The block in which record r stands.
+pub(crate) fn block_with(r: usize) -> usize
+    ensures { λ b. ⌜ b ≡ blockWith r ⌝ }
+{
+    r / layout::RECORDS_IN_BLOCK + 1
+}
+
 pub(crate) fn record_of(bytes: &[u8], r: usize) -> &[u8]
     requires { ⌜ (r / 8 + 2) * 512 ≤ length (now bytes) ⌝ }
     ensures whole { λ rec. ⌜ now rec ≡ recordOf (now (bytes .entry)) r ⌝ }
     ensures len { λ rec. ⌜ length (now rec) ≡ 60 ⌝ }
 {
-    let block = r / layout::RECORDS_IN_BLOCK + 1;
-    part(
-        bytes,
-        block * layout::BLOCK + layout::HELD_AT + layout::RECORD * (r % layout::RECORDS_IN_BLOCK),
-        layout::RECORD,
-    )
+    let place = layout::HELD_AT + layout::RECORD * (r % layout::RECORDS_IN_BLOCK);
+    part(bytes, block_with(r) * layout::BLOCK + place, layout::RECORD)
 }
 
 // The row of a record: the constant stands last there, and first in a row.

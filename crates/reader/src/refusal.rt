@@ -3,6 +3,7 @@ ghost use mathlib.Core.Path.{_≡_};
 ghost use Rattle.std.specs.declared.option.Option.the-variants.{Some};
 ghost use Rattle.reader.specs.Lines.{layerText, placeText, refusedLine};
 ghost use Rattle.reader.specs.Refusals.{numberOf, layerOf, blockIn, recordIn};
+use crate::fields::block_with;
 use std::fmt;
 
 // What a refusal concerns.
@@ -81,7 +82,7 @@ impl Refusal {
             | Refusal::Row(r)
             | Refusal::Parents(r)
             | Refusal::Combination(r)
-            | Refusal::NotFalse(r) => Some(*r / 8 + 1),
+            | Refusal::NotFalse(r) => Some(block_with(*r)),
         }
     }
 

@@ -2,9 +2,9 @@
 --   Each block: bytes 0-3 its number, 4-5 its count of records, 508-511 its seal. Header: bytes 8-9 edition 1, 10-11 n, 12-13 t.
 --   Record c of a block begins at byte 8 + 60·c: byte 0 kind, 4-5 tag or first parent, 6-7 second parent, 8-11 u, 12-15 v, 16-51 a1..a8 and b.
 --   Unassigned bytes are zero.
-use mathlib.Core.List.{List, [], _∷_, _++_, map}
+use mathlib.Core.List.{List, _∷_, _++_, map}
 use Prim.Native.Nat.{ℕ, zero, suc, _+_, _-_, _*_, _/_, _%_, min}
-use lib.IntN.{ℤ, pos}
+use lib.IntN.{ℤ}
 use lib.ListN.{getD, length, take, drop, replicate}
 use Rattle.std.specs.Iters.{counting}
 use Rattle.std.specs.shelf.Lists.{joined}
@@ -15,8 +15,12 @@ use Rattle.rows.specs.Derivations.{Record, input, step, Derivation}
 abbrev pub blockOf : List ℕ → ℕ → List ℕ
 blockOf bytes b = take 512 (drop (512 * b) bytes)
 
+-- the block in which record r stands
+abbrev pub blockWith : ℕ → ℕ
+blockWith r = r / 8 + 1
+
 abbrev pub recordOf : List ℕ → ℕ → List ℕ
-recordOf bytes r = take 60 (drop ((r / 8 + 1) * 512 + 8 + 60 * (r % 8)) bytes)
+recordOf bytes r = take 60 (drop (blockWith r * 512 + 8 + 60 * (r % 8)) bytes)
 
 abbrev pub kindIn : List ℕ → ℕ
 kindIn rec = getD rec 0 0

@@ -24,7 +24,7 @@ pub const RECORDS_AT: usize = 12;
 
 pub const HEADER_END: usize = 14;
 
-// What an image may have at the most.
+// What an image may have.
 pub const MOST_UNKNOWNS: u16 = 8;
 
 pub const MOST_RECORDS: usize = 256;

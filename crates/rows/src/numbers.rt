@@ -1,7 +1,7 @@
 // Nine whole numbers at a time: those of a row, or of a point.
 ghost use mathlib.Core.Path.{_≡_};
 ghost use Prim.Native.Nat.{_≤_, _^_};
-ghost use lib.IntN.{pos, _+ℤ_, _*ℤ_, natAbs};
+ghost use lib.IntN.{pos, _+ℤ_, _*ℤ_};
 ghost use Rattle.arith.specs.Dot.{dot, combine};
 ghost use Rattle.arith.specs.Lowest.{AllWithin, withinAll, gcdAll, lowestOf, IsLowest};
 ghost use Rattle.rows.specs.Rows.{sameNumbers};

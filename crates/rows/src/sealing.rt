@@ -3,6 +3,7 @@ ghost use mathlib.Core.Path.{_≡_};
 ghost use Prim.Native.Nat.{_≤_};
 ghost use lib.ListN.{length, take};
 ghost use Rattle.rows.specs.Bytes.{sealOf};
+use crate::layout;
 
 // The seal that the bytes before it, 508 of them, ask for.
 pub fn seal(block: &[u8]) -> u32
@@ -16,7 +17,7 @@ fn body(block: &[u8]) -> &[u8]
     ensures is { λ r. ⌜ now r ≡ take 508 (now (block .entry)) ⌝ }
     ensures size { λ r. ⌜ length (now r) ≤ 508 ⌝ }
 {
-    &block[..block.len().min(508)]
+    &block[..block.len().min(layout::SEAL_AT)]
 }
 
 // 1 plus the sum of (i + 1) times byte i.

@@ -1,5 +1,5 @@
 -- The row that was made, or that none was, decides.
-use mathlib.Core.Path.{_≡_, sym, ap, _∙_}
+use mathlib.Core.Path.{ap, _∙_}
 use lib.Dec.{leb}
 use Rattle.rows.specs.Rows.{asRow}
 use Rattle.rows.specs.Image.{numbersIn}

@@ -1,7 +1,7 @@
 -- The bytes reach as far as the records.
 use borrow.Author.Needs.{needs}
 use mathlib.Core.Path.{_≡_, sym, subst}
-use Rattle.reader.specs.Reading.{Reading, readingOf}
+use Rattle.reader.specs.Reading.{readingOf}
 use Rattle.reader.specs.Shown.{readingIn, ShowsAll}
 use Rattle.reader.proofs.Headers.{sized-shows}
 use Rattle.reader.proofs.reading.accepted.Needs as need

@@ -1,10 +1,10 @@
 -- The frame first, then the records.
-use mathlib.Core.Path.{_≡_, sym, _∙_, ap}
+use mathlib.Core.Path.{sym, _∙_, ap}
 use Prim.Native.Nat.{ℕ, _+_, _*_}
 use Rattle.std.proofs.shelf.Results.{err-from-errBy}
 use Rattle.std.specs.declared.result.Result.{Result}
 use Rattle.rows.specs.Image.{countIn}
-use Rattle.reader.specs.Questions.{_then_, forEach}
+use Rattle.reader.specs.Questions.{forEach}
 use Rattle.reader.specs.Reading.{frameAsked, recordAsked, blockAsked}
 use Rattle.reader.specs.declared.refusal.Refusal.{Refusal}
 use Rattle.reader.proofs.Asking.{then-yes, then-no}

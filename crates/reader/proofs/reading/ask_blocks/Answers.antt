@@ -3,10 +3,8 @@ use mathlib.Core.Path.{_≡_, sym, _∙_, ap}
 use Prim.Native.Nat.{_+_, _/_}
 use native.Mathlib.Omega.{arith}
 use Rattle.std.proofs.shelf.Results.{err-from-errBy}
-use Rattle.std.specs.declared.result.Result.{Result}
 use Rattle.reader.specs.Questions.{forEach}
 use Rattle.reader.specs.Reading.{blockAsked}
-use Rattle.reader.specs.declared.refusal.Refusal.{Refusal}
 use Rattle.reader.proofs.Asking.{each-more, each-no}
 use Rattle.reader.proofs.reading.ask_blocks.Needs as need
 

@@ -1,6 +1,6 @@
 -- A right header says how far the bytes reach.
 use borrow.Author.Needs.{needs}
-use mathlib.Core.Path.{_≡_, ap, _∙_}
+use mathlib.Core.Path.{ap, _∙_}
 use lib.ListN.{length}
 use Rattle.reader.specs.Questions.{asked}
 use Rattle.reader.specs.Reading.{headerRight}

@@ -1,12 +1,10 @@
 -- One record more: a yes, or the first no.
 use mathlib.Core.Path.{_≡_, sym, _∙_, ap}
-use Prim.Native.Nat.{ℕ, _+_, _*_}
+use Prim.Native.Nat.{_+_, _*_}
 use native.Mathlib.Omega.{arith}
 use Rattle.std.proofs.shelf.Results.{err-from-errBy}
-use Rattle.std.specs.declared.result.Result.{Result}
 use Rattle.reader.specs.Questions.{forEach}
 use Rattle.reader.specs.Reading.{recordAsked}
-use Rattle.reader.specs.declared.refusal.Refusal.{Refusal}
 use Rattle.reader.proofs.Asking.{each-more, each-no}
 use Rattle.reader.proofs.reading.ask_records.Needs as need
 

@@ -1,7 +1,7 @@
 -- The row holds the numbers, which the test found within the limit.
 use Prim.Native.Nat.{_≤_, _^_}
 use mathlib.Core.List.{List}
-use mathlib.Core.Path.{_≡_, sym, _∙_, ap, subst}
+use mathlib.Core.Path.{sym, _∙_, ap, subst}
 use lib.IntN.{ℤ}
 use Rattle.std.specs.declared.option.Option.the-variants.{Some}
 use Rattle.arith.specs.Lowest.{AllWithin, gcdAll}
