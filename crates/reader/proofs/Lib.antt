@@ -1,5 +1,9 @@
-pub mod Asking
+pub mod Complete
+pub mod Exact
 pub mod Headers
 pub mod Numbers
+pub mod Records
+pub mod Sound
 pub mod Worked
+pub mod Yes
 pub mod Zeros

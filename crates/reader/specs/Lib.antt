@@ -1,5 +1,5 @@
-pub mod Questions
 pub mod Refusals
 pub mod Reading
 pub mod Shown
+pub mod Exactness
 pub mod Lines

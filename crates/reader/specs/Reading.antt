@@ -8,9 +8,9 @@ use Rattle.std.specs.declared.result.Result.{Result}
 use Rattle.std.specs.declared.result.Result.the-variants.{Ok, Err}
 use Rattle.rows.specs.Bytes.{le16, le32, zerosIn, sealOf}
 use Rattle.rows.specs.Derivations.{areParents}
-use Rattle.rows.specs.Image.{blockOf, recordOf, kindIn, firstIn, secondIn, uIn, vIn, numbersIn, countIn, blocksFor}
+use Rattle.rows.specs.Image.{blockOf, recordOf, kindIn, firstIn, secondIn, uIn, vIn, numbersIn, isInput, unknownsIn, recordsIn, countIn, blocksFor, imageSize}
 use Rattle.rows.specs.Rows.{isRow, isFalse, combinationOf, sameRow}
-use Rattle.reader.specs.Questions.{asked, _then_, forEach}
+use Rattle.rows.specs.Questions.{asked, _then_, forEach, answered}
 use Rattle.reader.specs.declared.refusal.Refusal.{Refusal}
 use Rattle.reader.specs.declared.refusal.Refusal.the-variants as no
 
@@ -32,10 +32,7 @@ headerRight block size =
     eqb (le16 block 8) 1
     && (leb 1 (le16 block 10) && (leb (le16 block 10) 8
     && (leb 1 (le16 block 12) && (leb (le16 block 12) 256
-    && eqb size (512 * (1 + blocksFor (le16 block 12)))))))
-
-abbrev pub isInput : List ℕ → Bool
-isInput rec = eqb (kindIn rec) 1
+    && eqb size (imageSize (le16 block 12))))))
 
 -- kind 1 for an input or 2 for a step, and zeros in the unassigned bytes
 abbrev pub kindRight : List ℕ → Bool
@@ -52,16 +49,9 @@ combinationRight bytes rec =
     isInput rec
     || sameRow (combinationOf (uIn rec) (numbersIn (recordOf bytes (firstIn rec))) (vIn rec) (numbersIn (recordOf bytes (secondIn rec)))) (numbersIn rec)
 
--- n and t, as the header has them
-abbrev pub unknownsIn : List ℕ → ℕ
-unknownsIn bytes = le16 (blockOf bytes 0) 10
-
-abbrev pub recordsIn : List ℕ → ℕ
-recordsIn bytes = le16 (blockOf bytes 0) 12
-
 -- what the header's questions make sure of: some records, few enough, and the bytes reach as far as they do
 abbrev pub Sized : List ℕ → Type 0
-Sized bytes = (1 ≤ recordsIn bytes) × (recordsIn bytes ≤ 256) × (512 * (1 + blocksFor (recordsIn bytes)) ≤ length bytes)
+Sized bytes = (1 ≤ recordsIn bytes) × (recordsIn bytes ≤ 256) × (imageSize (recordsIn bytes) ≤ length bytes)
 
 -- the questions of the header, of record r, of block b + 1 apart from its records, and of that block
 abbrev pub headerAsked : List ℕ → Result (Unit {0}) Refusal
@@ -106,10 +96,6 @@ pub record Reading : Type 0 where
 
 abbrev pub readingOf : List ℕ → Reading
 readingOf bytes = record { image = bytes; records = recordsIn bytes; inputs = inputsBelow bytes (recordsIn bytes) }
-
-abbrev pub answered : {E A : Type 0} → Result (Unit {0}) E → A → Result A E
-answered (Ok _) reading = Ok reading
-answered (Err refusal) reading = Err refusal
 
 abbrev pub readOf : List ℕ → Result Reading Refusal
 readOf bytes = answered (imageAsked bytes) (readingOf bytes)

@@ -1,15 +1,13 @@
 -- What the answers of the reader show, by value: a reference is what it points to.
-use mathlib.Core.Bool.{true, cond, _&&_}
+use mathlib.Core.Bool.{cond, _&&_}
 use mathlib.Core.List.{List}
-use mathlib.Core.Path.{_≡_}
-use Prim.Native.Nat.{ℕ, _/_, _<_}
+use Prim.Native.Nat.{ℕ, _/_}
 use lib.Dec.{ltb}
 use lib.ListN.{length}
-use Rattle.std.specs.Results.{isOk}
 use Rattle.std.specs.declared.result.Result.{Result}
 use Rattle.std.specs.declared.result.Result.the-variants.{Ok, Err}
-use Rattle.rows.specs.Image.{blockWith, recordOf}
-use Rattle.reader.specs.Reading.{Reading, isInput}
+use Rattle.rows.specs.Image.{blockWith, recordOf, isInput}
+use Rattle.reader.specs.Reading.{Reading}
 use Rattle.reader.specs.declared.accepted.Accepted.{Accepted}
 use Rattle.reader.specs.declared.accepted.Record.{Record}
 use Rattle.reader.specs.declared.accepted.Record.the-variants as the-record
@@ -42,7 +40,3 @@ shownAt reading r =
     cond (ltb r (reading .records) && ltb (blockWith r) (length (reading .image) / 512))
     (cond (isInput (recordOf (reading .image) r)) (Ok (input (recordOf (reading .image) r))) (Ok (step (recordOf (reading .image) r))))
     (Err (NoRecord r))
-
--- every record below the count is shown
-abbrev pub ShowsAll : Reading → Type 0
-ShowsAll reading = (r : ℕ) → r < reading .records → isOk (shownAt reading r) ≡ true

@@ -1,9 +1,8 @@
 // Where things stand in an image: its blocks, its records, and a record's row.
 ghost use mathlib.Core.Path.{_≡_};
-ghost use Prim.Native.Nat.{_+_, _*_, _/_, _^_, _<_, _≤_};
+ghost use Prim.Native.Nat.{_+_, _*_, _/_, _≤_};
 ghost use lib.ListN.{length};
-ghost use Rattle.rows.specs.Image.{blockOf, blockWith, recordOf, numbersIn, countIn, blocksFor};
-ghost use Rattle.reader.specs.Reading.{unknownsIn, recordsIn};
+ghost use Rattle.rows.specs.Image.{blockOf, blockWith, recordOf, numbersIn, unknownsIn, recordsIn};
 use crate::bytes::i32_at;
 use crate::bytes::part;
 use crate::bytes::u16_at;
@@ -45,23 +44,6 @@ pub(crate) fn row_in(rec: &[u8]) -> PlainRow
         numbers[k] = i32_at(rec, layout::COEFFICIENTS_AT + 4 * (k - 1));
     }
     PlainRow { numbers }
-}
-
-// How many records block b + 1 has, of t in all.
-pub(crate) fn count_in(t: usize, b: usize) -> usize
-    requires { ⌜ 8 * b ≤ t ⌝ }
-    ensures is { λ r. ⌜ r ≡ countIn t b ⌝ }
-    ensures few { λ r. ⌜ r ≤ 8 ⌝ }
-{
-    (t - layout::RECORDS_IN_BLOCK * b).min(layout::RECORDS_IN_BLOCK)
-}
-
-// How many blocks t records take.
-pub(crate) fn blocks_for(t: usize) -> usize
-    requires { ⌜ t < 2 ^ 16 ⌝ }
-    ensures { λ r. ⌜ r ≡ blocksFor t ⌝ }
-{
-    (t + 7) / layout::RECORDS_IN_BLOCK
 }
 
 // n, as the header has it.

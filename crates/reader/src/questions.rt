@@ -4,13 +4,12 @@ ghost use mathlib.Core.Path.{_≡_};
 ghost use Prim.Native.Nat.{_+_, _*_, _/_, _≤_};
 ghost use lib.ListN.{length};
 ghost use Rattle.rows.specs.Derivations.{areParents};
-ghost use Rattle.rows.specs.Image.{recordOf, firstIn, secondIn, uIn, vIn, numbersIn};
+ghost use Rattle.rows.specs.Image.{recordOf, firstIn, secondIn, uIn, vIn, numbersIn, isInput};
 ghost use Rattle.rows.specs.Rows.{isRow, isFalse};
-ghost use Rattle.reader.specs.Reading.{isLength, sealRight, frameRight, headerRight, isInput, kindRight, parentsRight, combinationRight};
+ghost use Rattle.reader.specs.Reading.{isLength, sealRight, frameRight, headerRight, kindRight, parentsRight, combinationRight};
 use crate::bytes::u16_at;
 use crate::bytes::u32_at;
 use crate::bytes::zeros_in;
-use crate::fields::blocks_for;
 use crate::fields::record_of;
 use crate::fields::row_in;
 use rows::PlainRowPartialEq;
@@ -54,7 +53,7 @@ pub(crate) fn header_right(block: &[u8], size: usize) -> bool
         && n <= layout::MOST_UNKNOWNS
         && 1 <= t
         && t <= layout::MOST_RECORDS
-        && size == layout::BLOCK * (1 + blocks_for(t))
+        && size == layout::BLOCK * (1 + layout::blocks_for(t))
 }
 
 pub(crate) fn is_input(rec: &[u8]) -> bool

@@ -2,15 +2,14 @@
 ghost use mathlib.Core.Path.{_≡_};
 ghost use Prim.Native.Nat.{_+_, _*_, _/_, _<_, _≤_};
 ghost use lib.ListN.{length};
-ghost use Rattle.rows.specs.Image.{blocksFor};
-ghost use Rattle.reader.specs.Questions.{asked, forEach};
+ghost use Rattle.rows.specs.Image.{blocksFor, OneImageEach};
+ghost use Rattle.rows.specs.Questions.{asked, forEach};
 ghost use Rattle.std.specs.Vec.{made};
+ghost use Rattle.reader.specs.Exactness.{AcceptsExactlyImages};
 ghost use Rattle.reader.specs.Reading.{headerAsked, recordAsked, frameAsked, blockAsked, imageAsked, Sized, inputsBelow, readingOf, readOf};
-ghost use Rattle.reader.specs.Shown.{readingIn, viewed, ShowsAll};
+ghost use Rattle.reader.specs.Shown.{readingIn, viewed};
 use crate::accepted::Accepted;
 use crate::fields::block_of;
-use crate::fields::blocks_for;
-use crate::fields::count_in;
 use crate::fields::record_of;
 use crate::fields::records_in;
 use crate::fields::unknowns_in;
@@ -75,7 +74,7 @@ fn ask_frame(bytes: &[u8], t: usize, b: usize) -> Result<(), Refusal>
     ensures { λ o. ⌜ o ≡ frameAsked (now (bytes .entry)) t b ⌝ }
 {
     let block = block_of(bytes, b + 1);
-    let count = count_in(t, b);
+    let count = layout::count_in(t, b);
     ask(seal_right(block), Refusal::Seal(b + 1))?;
     ask(
         frame_right(
@@ -93,7 +92,7 @@ fn ask_block(bytes: &[u8], n: usize, t: usize, b: usize) -> Result<(), Refusal>
     ensures { λ o. ⌜ o ≡ blockAsked (now (bytes .entry)) n t b ⌝ }
 {
     ask_frame(bytes, t, b)?;
-    ask_records(bytes, n, b, count_in(t, b))
+    ask_records(bytes, n, b, layout::count_in(t, b))
 }
 
 // The blocks after the header.
@@ -101,7 +100,7 @@ fn ask_blocks(bytes: &[u8], n: usize, t: usize) -> Result<(), Refusal>
     requires { ⌜ 512 * (1 + blocksFor t) ≤ length (now bytes) ⌝ ∗ ⌜ t ≤ 256 ⌝ }
     ensures { λ o. ⌜ o ≡ forEach (blockAsked (now (bytes .entry)) n t) (blocksFor t) ⌝ }
 {
-    for b in 0..blocks_for(t) {
+    for b in 0..layout::blocks_for(t) {
         ask_block(bytes, n, t, b)?;
     }
     Ok(())
@@ -136,18 +135,19 @@ fn ask_image(bytes: &[u8]) -> Result<(), Refusal>
 // The image, once every question is answered with yes.
 fn accepted(bytes: &[u8]) -> Accepted<'_>
     requires { ⌜ Sized (now bytes) ⌝ }
-    ensures is { λ a. ⌜ readingIn a ≡ readingOf (now (bytes .entry)) ⌝ }
-    ensures shows { λ a. ⌜ ShowsAll (readingIn a) ⌝ }
+    ensures { λ a. ⌜ readingIn a ≡ readingOf (now (bytes .entry)) ⌝ }
 {
     let records = records_in(bytes);
     Accepted::new(bytes, records, count_inputs(bytes, records))
 }
 
 // Reads an image: accepts it, or refuses it by the first question whose answer is no.
-// An accepted image shows every record below its count.
+// The bytes are accepted exactly when they are the image of a derivation: the one that its records show.
+// Then no fractions satisfy all its input rows. Equal records have equal bytes, and equal bytes are those of equal records.
 pub fn read(bytes: &[u8]) -> Result<Accepted<'_>, Refusal>
     ensures is { λ r. ⌜ viewed r ≡ readOf (now (bytes .entry)) ⌝ }
-    ensures shows { λ r. ⌜ made r (λ a. ShowsAll (readingIn a)) ⌝ }
+    ensures exactly { λ r. ⌜ AcceptsExactlyImages (now (bytes .entry)) (viewed r) ⌝ }
+    ensures one_image_each { λ _. ⌜ OneImageEach ⌝ }
 {
     ask_image(bytes)?;
     Ok(accepted(bytes))

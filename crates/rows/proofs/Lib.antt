@@ -3,3 +3,9 @@ pub mod Levels
 pub mod Weights
 pub mod Outcomes
 pub mod Same
+pub mod Asking
+pub mod Fields
+pub mod RecordBytes
+pub mod BlockBytes
+pub mod Images
+pub mod Consequences

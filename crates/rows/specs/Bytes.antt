@@ -1,12 +1,16 @@
 -- Numbers as bytes, little-endian, and the seal of a block.
 use mathlib.Core.Bool.{Bool, true, _&&_}
 use mathlib.Core.List.{List, [], _∷_}
-use Prim.Native.Nat.{ℕ, _+_, _-_, _*_, _/_, _%_}
+use Prim.Native.Nat.{ℕ, _+_, _-_, _*_, _/_, _%_, _<_}
 use lib.Dec.{eqb}
 use lib.IntN.{ℤ}
 use lib.ListN.{getD, take, drop}
 use mir.Syntax.{w32}
 use mir.Val.{toZ, ofZ}
+use Rattle.std.specs.shelf.Lists.{All}
+
+abbrev pub AllBytes : List ℕ → Type 0
+AllBytes bs = All (λ b. b < 256) bs
 
 -- the number that stands at a byte: of 16 bits, of 32 bits, signed of 32 bits
 abbrev pub le16 : List ℕ → ℕ → ℕ

@@ -1,13 +1,14 @@
 -- Derivations: rows, some given and some combined from earlier ones, the last of which no point satisfies.
-use mathlib.Core.Bool.{Bool, true, _&&_}
-use mathlib.Core.List.{List, []}
+use mathlib.Core.Bool.{Bool, true, false, _&&_}
+use mathlib.Core.List.{List, [], map}
 use mathlib.Core.Path.{_≡_}
 use Prim.Native.Nat.{ℕ, _+_, _-_, _≤_, _<_, _^_}
 use lib.Dec.{leb, ltb}
 use lib.IntN.{ℤ}
 use lib.ListN.{getD, length}
 use Rattle.std.specs.declared.option.Option.the-variants.{Some}
-use Rattle.rows.specs.Rows.{rowLimit, isRow, isFalse, combinationOf}
+use Rattle.std.specs.shelf.Lists.{kept-by}
+use Rattle.rows.specs.Rows.{rowLimit, NoFractions, isRow, isFalse, combinationOf}
 
 -- a record of a derivation: a row that was given, with its tag, or one combined from two earlier ones
 pub data Record : Type 0 where
@@ -17,6 +18,14 @@ pub data Record : Type 0 where
 abbrev pub rowIn : Record → List ℤ
 rowIn (input tag row) = row
 rowIn (step first second u v row) = row
+
+-- the records that were given, in their order
+abbrev pub isGiven : Record → Bool
+isGiven (input tag row) = true
+isGiven (step first second u v row) = false
+
+abbrev pub inputsOf : List Record → List Record
+inputsOf records = kept-by isGiven records
 
 abbrev pub rowAt : List Record → ℕ → List ℤ
 rowAt records r = rowIn (getD records r (input 0 []))
@@ -42,3 +51,7 @@ pub record IsDerivation (d : Derivation) : Type 0 where
   pub some-records : (1 ≤ length (d .records)) × (length (d .records) ≤ 256)
   pub each-stands : (r : ℕ) → r < length (d .records) → Stands (d .unknowns) (d .records) r (getD (d .records) r (input 0 []))
   pub last-false : isFalse (rowAt (d .records) (length (d .records) - 1)) ≡ true
+
+-- no fractions satisfy all the rows that were given
+abbrev pub NoneFits : Derivation → Type 0
+NoneFits d = NoFractions (map rowIn (inputsOf (d .records)))

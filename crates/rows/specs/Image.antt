@@ -2,14 +2,17 @@
 --   Each block: bytes 0-3 its number, 4-5 its count of records, 508-511 its seal. Header: bytes 8-9 edition 1, 10-11 n, 12-13 t.
 --   Record c of a block begins at byte 8 + 60·c: byte 0 kind, 4-5 tag or first parent, 6-7 second parent, 8-11 u, 12-15 v, 16-51 a1..a8 and b.
 --   Unassigned bytes are zero.
+use mathlib.Core.Bool.{Bool, cond}
 use mathlib.Core.List.{List, _∷_, _++_, map}
+use mathlib.Core.Path.{_≡_}
 use Prim.Native.Nat.{ℕ, zero, suc, _+_, _-_, _*_, _/_, _%_, min}
+use lib.Dec.{eqb}
 use lib.IntN.{ℤ}
 use lib.ListN.{getD, length, take, drop, replicate}
 use Rattle.std.specs.Iters.{counting}
 use Rattle.std.specs.shelf.Lists.{joined}
 use Rattle.rows.specs.Bytes.{le16, le32, leI32, bytes16, bytes32, bytesI32, sealOf}
-use Rattle.rows.specs.Derivations.{Record, input, step, Derivation}
+use Rattle.rows.specs.Derivations.{Record, input, step, Derivation, IsDerivation}
 
 -- where things stand: block b, record r, and the fields of a record
 abbrev pub blockOf : List ℕ → ℕ → List ℕ
@@ -45,12 +48,41 @@ placeOf (suc k) = 16 + 4 * k
 unfoldable pub numbersIn : List ℕ → List ℤ
 numbersIn rec = map (λ k. leI32 rec (placeOf k)) (counting 0 9)
 
+-- kind 1 is an input; any other is taken for a step
+abbrev pub isInput : List ℕ → Bool
+isInput rec = eqb (kindIn rec) 1
+
+-- the record that 60 bytes show
+unfoldable pub recordShown : List ℕ → Record
+recordShown rec =
+    cond (isInput rec)
+    (input (firstIn rec) (numbersIn rec))
+    (step (firstIn rec) (secondIn rec) (uIn rec) (vIn rec) (numbersIn rec))
+
+-- n and t, as the header has them
+abbrev pub unknownsIn : List ℕ → ℕ
+unknownsIn bytes = le16 (blockOf bytes 0) 10
+
+abbrev pub recordsIn : List ℕ → ℕ
+recordsIn bytes = le16 (blockOf bytes 0) 12
+
+-- the derivation that an image shows
+abbrev pub derivationShown : List ℕ → Derivation
+derivationShown bytes = record {
+  unknowns = unknownsIn bytes;
+  records = map (λ r. recordShown (recordOf bytes r)) (counting 0 (recordsIn bytes));
+}
+
 -- the records of block b + 1, of t in all
 abbrev pub countIn : ℕ → ℕ → ℕ
 countIn t b = min (t - 8 * b) 8
 
 abbrev pub blocksFor : ℕ → ℕ
 blocksFor t = (t + 7) / 8
+
+-- the length of an image of t records
+abbrev pub imageSize : ℕ → ℕ
+imageSize t = 512 * (1 + blocksFor t)
 
 -- which bytes an image has
 abbrev pub zeroBytes : ℕ → List ℕ
@@ -84,3 +116,8 @@ unfoldable pub imageOf : Derivation → List ℕ
 imageOf d =
     headerBytes (d .unknowns) (length (d .records))
     ++ joined (recordsBlock (d .records)) (counting 0 (blocksFor (length (d .records))))
+
+-- equal records have equal bytes, and equal bytes are those of equal records
+abbrev pub OneImageEach : Type 0
+OneImageEach =
+    (d e : Derivation) → IsDerivation d → IsDerivation e → (d ≡ e → imageOf d ≡ imageOf e) × (imageOf d ≡ imageOf e → d ≡ e)

@@ -12,6 +12,7 @@ use lib.ListN.{getD, length}
 use lib.Signed.{_≤ℤ_, leZ, ltZ}
 use Rattle.std.specs.declared.option.Option.{Option}
 use Rattle.std.specs.declared.option.Option.the-variants.{Some, None}
+use Rattle.std.specs.shelf.Lists.{All}
 use Rattle.arith.specs.Dot.{dot, combine}
 use Rattle.arith.specs.Lowest.{withinAll, gcdAll, lowestOf}
 
@@ -35,7 +36,11 @@ Fractions (d ∷ numerators) = pos 1 ≤ℤ d
 abbrev pub Satisfies : List ℤ → List ℤ → Type 0
 Satisfies point row = pos 0 ≤ℤ worthOf row point
 
--- the same as a test
+-- no fractions satisfy all of these rows
+abbrev pub NoFractions : List (List ℤ) → Type 0
+NoFractions rows = (point : List ℤ) → Fractions point → All (Satisfies point) rows → ⊥
+
+-- whether the point satisfies the row, as a test
 abbrev pub isTrue : List ℤ → List ℤ → Bool
 isTrue point row = leZ (pos 0) (worthOf row point)
 

@@ -1,4 +1,8 @@
 // Where things stand in an image, for its reader and its writer. Sizes and places are in bytes.
+ghost use mathlib.Core.Path.{_≡_};
+ghost use Prim.Native.Nat.{_≤_};
+ghost use Rattle.rows.specs.Image.{countIn, blocksFor};
+use std::cmp::Ordering;
 
 // A block: its number, its count of records, what it holds, its seal.
 pub const BLOCK: usize = 512;
@@ -59,3 +63,22 @@ pub const COEFFICIENTS_AT: usize = 16;
 pub const CONSTANT_AT: usize = 48;
 
 pub const ROW_END: usize = 52;
+
+// How many blocks t records take.
+pub fn blocks_for(t: usize) -> usize
+    ensures { λ r. ⌜ r ≡ blocksFor t ⌝ }
+{
+    t.div_ceil(RECORDS_IN_BLOCK)
+}
+
+// How many records block b + 1 has, of t in all: eight in each but the last.
+pub fn count_in(t: usize, b: usize) -> usize
+    ensures is { λ r. ⌜ r ≡ countIn t b ⌝ }
+    ensures few { λ r. ⌜ r ≤ 8 ⌝ }
+{
+    match b.cmp(&(t / RECORDS_IN_BLOCK)) {
+        Ordering::Less => RECORDS_IN_BLOCK,
+        Ordering::Equal => t % RECORDS_IN_BLOCK,
+        Ordering::Greater => 0,
+    }
+}

@@ -3,12 +3,14 @@
 mod combining;
 pub mod layout;
 mod numbers;
+mod origin;
 mod plain;
 mod row;
 mod sealing;
 mod values;
 
 pub use combining::combination;
+pub use origin::Origin;
 pub use plain::PlainRow;
 pub use plain::PlainRowEq;
 pub use plain::PlainRowPartialEq;

@@ -4,10 +4,10 @@ use Prim.Native.Nat.{ℕ, _+_, _*_}
 use Rattle.std.proofs.shelf.Results.{err-from-errBy}
 use Rattle.std.specs.declared.result.Result.{Result}
 use Rattle.rows.specs.Image.{countIn}
-use Rattle.reader.specs.Questions.{forEach}
+use Rattle.rows.specs.Questions.{forEach}
 use Rattle.reader.specs.Reading.{frameAsked, recordAsked, blockAsked}
 use Rattle.reader.specs.declared.refusal.Refusal.{Refusal}
-use Rattle.reader.proofs.Asking.{then-yes, then-no}
+use Rattle.rows.proofs.Asking.{then-yes, then-no}
 use Rattle.reader.proofs.reading.ask_block.Needs as need
 
 pub returns-in-Break-ask-frame : need.returns-in-Break-ask-frame

@@ -1,7 +1,7 @@
 -- Every answer so far was yes.
 use mathlib.Core.Path.{_≡_}
 use Rattle.std.specs.declared.result.Result.the-variants.{Ok}
-use Rattle.reader.specs.Questions.{forEach}
+use Rattle.rows.specs.Questions.{forEach}
 use Rattle.reader.specs.Reading.{blockAsked}
 use Rattle.reader.proofs.reading.ask_blocks.Given as given
 

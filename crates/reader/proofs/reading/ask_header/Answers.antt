@@ -2,7 +2,7 @@
 use borrow.Author.Needs.{needs}
 use mathlib.Core.Path.{ap, _∙_}
 use lib.ListN.{length}
-use Rattle.reader.specs.Questions.{asked}
+use Rattle.rows.specs.Questions.{asked}
 use Rattle.reader.specs.Reading.{headerRight}
 use Rattle.reader.specs.declared.refusal.Refusal.the-variants.{Header}
 use Rattle.reader.proofs.Headers.{asked-sized}

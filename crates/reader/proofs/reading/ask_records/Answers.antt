@@ -3,9 +3,9 @@ use mathlib.Core.Path.{_≡_, sym, _∙_, ap}
 use Prim.Native.Nat.{_+_, _*_}
 use native.Mathlib.Omega.{arith}
 use Rattle.std.proofs.shelf.Results.{err-from-errBy}
-use Rattle.reader.specs.Questions.{forEach}
+use Rattle.rows.specs.Questions.{forEach}
 use Rattle.reader.specs.Reading.{recordAsked}
-use Rattle.reader.proofs.Asking.{each-more, each-no}
+use Rattle.rows.proofs.Asking.{each-more, each-no}
 use Rattle.reader.proofs.reading.ask_records.Needs as need
 
 pub returns-in-Break-ask-record : need.returns-in-Break-ask-record

@@ -2,7 +2,7 @@
 use mathlib.Core.Path.{_≡_}
 use Prim.Native.Nat.{_+_, _*_}
 use Rattle.std.specs.declared.result.Result.the-variants.{Ok}
-use Rattle.reader.specs.Questions.{forEach}
+use Rattle.rows.specs.Questions.{forEach}
 use Rattle.reader.specs.Reading.{recordAsked}
 use Rattle.reader.proofs.reading.ask_records.Given as given
 

@@ -4,8 +4,8 @@ use mathlib.Core.Bool.{Bool, true, false, cond}
 use Prim.Native.Nat.{ℕ, _+_}
 use native.Mathlib.Omega.{arith}
 use native.Mathlib.Numerals.{add-one}
-use Rattle.rows.specs.Image.{recordOf}
-use Rattle.reader.specs.Reading.{inputsBelow, isInput}
+use Rattle.rows.specs.Image.{recordOf, isInput}
+use Rattle.reader.specs.Reading.{inputsBelow}
 use Rattle.reader.proofs.reading.count_inputs.Needs as need
 use Rattle.reader.proofs.reading.count_inputs.Needs.{then-is-input, else-is-input}
 

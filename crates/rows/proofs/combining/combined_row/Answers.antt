@@ -6,9 +6,8 @@ use mathlib.Core.Path.{_≡_, _∙_, ap}
 use lib.IntN.{ℤ, pos}
 use Rattle.std.proofs.shelf.Tests.{le-leb}
 use Rattle.arith.specs.Dot.{combine}
-use Rattle.arith.proofs.Dots.{dot-combine-nonneg}
-use Rattle.arith.proofs.LowestForms.{dot-lowest-nonneg}
 use Rattle.rows.specs.Rows.{rowOf, combinationOf, Satisfies}
+use Rattle.rows.proofs.Consequences.{lowest-follows}
 use Rattle.rows.proofs.Outcomes.{found-row}
 use Rattle.rows.proofs.combining.combined_row.Needs as need
 
@@ -23,5 +22,5 @@ returns c =
       follows =
           found-row _ (c .row-of .result) _
           (λ zs. (point : List ℤ) → Satisfies point (c .args .first .now) → Satisfies point (c .args .second .now) → Satisfies point zs) m
-          (λ point p q. dot-lowest-nonneg _ point (dot-combine-nonneg (c .args .u) (c .args .v) (c .args .first .now) (c .args .second .now) point (omega arith) p q));
+          (lowest-follows (c .args .u) (c .args .first .now) (c .args .v) (c .args .second .now) (omega arith));
     }

@@ -19,3 +19,8 @@ _then_ (Err refusal) next = Err refusal
 abbrev pub forEach : {E : Type 0} → (ℕ → Result (Unit {0}) E) → ℕ → Result (Unit {0}) E
 forEach question zero = Ok tt
 forEach question (suc n) = forEach question n then question n
+
+-- what is answered once every question got a yes
+abbrev pub answered : {E A : Type 0} → Result (Unit {0}) E → A → Result A E
+answered (Ok _) answer = Ok answer
+answered (Err refusal) answer = Err refusal

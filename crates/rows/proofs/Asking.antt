@@ -8,7 +8,7 @@ use native.Mathlib.Omega.{arith}
 use Rattle.std.specs.declared.result.Result.{Result}
 use Rattle.std.specs.declared.result.Result.the-variants.{Ok, Err}
 use Rattle.std.proofs.shelf.Tests.{cases-lt}
-use Rattle.reader.specs.Questions.{asked, _then_, forEach}
+use Rattle.rows.specs.Questions.{asked, _then_, forEach}
 
 -- a yes leaves what comes next, and a no stays
 pub then-yes : {E : Type 0} (x y : Result (Unit {0}) E) → x ≡ Ok tt → (x then y) ≡ y
@@ -37,3 +37,17 @@ module _ {E : Type 0} (p : ℕ → Result (Unit {0}) E) where
       (λ (l : i < n). then-no (forEach p n) (p n) e (each-no i n e l b q))
       (λ (l : n ≤ i). let s : i ≡ n = omega arith in then-yes (forEach p n) (p n) (ap (forEach p) (sym s) ∙ b) ∙ (ap p (sym s) ∙ q))
       (cases-lt i n)
+
+  -- a yes for each is a yes for all, and back
+  pub each-at : (i n : ℕ) → forEach p n ≡ Ok tt → i < n → p i ≡ Ok tt
+  each-at i zero h l = absurd (omega arith)
+  each-at i (suc n) h l =
+      let both = then-both (forEach p n) (p n) h in
+      ⊎-elim
+      (λ (k : i < n). each-at i n (both .0) k)
+      (λ (k : n ≤ i). let s : i ≡ n = omega arith in ap p s ∙ both .1)
+      (cases-lt i n)
+
+  pub each-all : (n : ℕ) → ((i : ℕ) → i < n → p i ≡ Ok tt) → forEach p n ≡ Ok tt
+  each-all zero h = refl
+  each-all (suc n) h = then-yes (forEach p n) (p n) (each-all n (λ i l. h i (omega arith))) ∙ h n (omega arith)
