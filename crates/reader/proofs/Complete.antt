@@ -1,20 +1,18 @@
 -- The image of a derivation is accepted.
 use mathlib.Core.Path.{_≡_, sym, ap, subst, _∙_}
-use mathlib.Core.List.{List, [], _++_}
-use mathlib.Core.Bool.{true, _&&_}
-use Prim.Native.Nat.{ℕ, _+_, _-_, _*_, _/_, _%_, _<_, _≤_}
+use mathlib.Core.List.{List, []}
+use mathlib.Core.Bool.{true}
+use Prim.Native.Nat.{ℕ, _+_, _-_, _*_, _%_, _<_, _≤_}
 use native.Mathlib.Omega.{arith}
 use lib.Dec.{eqb, leb}
 use lib.ListN.{length, getD, take, drop}
 use Rattle.std.specs.declared.result.Result.the-variants.{Ok}
 use Rattle.std.specs.shelf.Lists.{joined}
-use Rattle.std.proofs.shelf.Elements.{all-append}
 use Rattle.std.proofs.shelf.Tests.{eq-eqb, le-leb}
-use Rattle.rows.specs.Bytes.{AllBytes, bytes16, le16, le32, zerosIn, sealOf}
-use Rattle.rows.specs.Derivations.{Record, input, step, rowIn, rowAt, areParents, Stands, Derivation, IsDerivation}
-use Rattle.rows.specs.Image.{blockOf, recordOf, numbersIn, unknownsIn, recordsIn, countIn, blocksFor, imageSize, recordBytes, headerBytes, recordsBlock, imageOf}
+use Rattle.rows.specs.Bytes.{le16, le32}
+use Rattle.rows.specs.Derivations.{Record, input, step, rowIn, rowAt, Stands, Derivation, IsDerivation}
+use Rattle.rows.specs.Image.{blockOf, recordOf, numbersIn, countIn, blocksFor, imageSize, recordBytes, headerBytes, recordsBlock, imageOf}
 use Rattle.rows.specs.Rows.{isFalse}
-use Rattle.rows.proofs.Fields.{all-bytes16}
 use Rattle.rows.proofs.BlockBytes.{AsBlock, AsHeader, block-forth, headerHeld, all-headerHeld}
 use Rattle.rows.proofs.Images.{Nine, held-at, derivation-nine, length-image, header-at, block-at, record-at, length-held, all-held, as-header, unknowns-in, records-in}
 use Rattle.rows.proofs.RecordBytes.{Held, AsInput, AsStep, input-forth, step-forth, shown-forth}

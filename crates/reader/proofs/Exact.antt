@@ -4,26 +4,23 @@ use mathlib.Core.List.{List, [], _∷_, _++_, map}
 use mathlib.Core.Bool.{Bool, true, false, cond}
 use Prim.Native.Nat.{ℕ, zero, suc, _+_, _<_}
 use native.Mathlib.Omega.{arith}
-use native.Mathlib.Numerals.{add-one}
 use lib.ListN.{length, getD}
 use mir.Syntax.{w8}
 use mir.Val.{Fits}
 use Rattle.std.specs.Iters.{counting}
-use Rattle.std.specs.shelf.Lists.{kept-by}
 use Rattle.std.specs.declared.result.Result.{Result}
 use Rattle.std.specs.declared.result.Result.the-variants.{Ok, Err}
 use Rattle.std.proofs.shelf.Counted.{kept-by-map-counting-more}
 use Rattle.std.proofs.shelf.Elements.{all-from-getD}
 use Rattle.std.proofs.shelf.Lists.{length-append}
 use Rattle.rows.specs.Bytes.{AllBytes}
-use Rattle.rows.specs.Derivations.{Record, input, step, isGiven, inputsOf, Derivation, IsDerivation}
+use Rattle.rows.specs.Derivations.{Record, isGiven, inputsOf, Derivation, IsDerivation}
 use Rattle.rows.specs.Image.{recordOf, recordShown, unknownsIn, recordsIn, derivationShown, imageOf, isInput}
 use Rattle.rows.specs.Questions.{answered}
 use Rattle.rows.proofs.Consequences.{none-fits}
 use Rattle.rows.proofs.Images.{all-image, shown-back}
 use Rattle.reader.specs.Exactness.{Shows, shownOf, AcceptsExactlyImages}
 use Rattle.reader.specs.Reading.{Reading, imageAsked, inputsBelow, readingOf, readOf}
-use Rattle.reader.specs.Shown.{shownAt}
 use Rattle.reader.specs.declared.refusal.Refusal.{Refusal}
 use Rattle.reader.proofs.Complete.{image-accepted}
 use Rattle.reader.proofs.Headers.{header-sized, shown-is}

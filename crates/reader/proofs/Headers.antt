@@ -16,7 +16,6 @@ use Rattle.rows.specs.Image.{blockOf, recordOf, isInput, recordsIn, imageSize}
 use Rattle.rows.specs.Questions.{asked}
 use Rattle.reader.specs.Reading.{headerRight, Sized, readingOf}
 use Rattle.reader.specs.Shown.{input, step, shownAt}
-use Rattle.reader.specs.declared.refusal.Refusal.{Refusal}
 
 -- what the header's numbers are
 pub record HeaderYes (block : List ℕ) (size : ℕ) : Type 0 where

@@ -1,12 +1,12 @@
 -- What the answers about a record say of the record that its bytes show.
 use mathlib.Core.Path.{_≡_, refl, sym, ap, subst, _∙_}
-use mathlib.Core.List.{List, []}
+use mathlib.Core.List.{List}
 use mathlib.Core.Bool.{Bool, true, false, cond, _&&_, _||_}
-use Prim.Native.Nat.{ℕ, zero, suc, _+_, _-_, _*_, _/_, _%_, _<_, _≤_, _^_}
+use Prim.Native.Nat.{ℕ, _+_, _-_, _<_}
 use native.Mathlib.Omega.{arith}
 use lib.Dec.{eqb, leb, ltb}
 use lib.IntN.{ℤ}
-use lib.ListN.{length, getD}
+use lib.ListN.{length}
 use Rattle.std.specs.declared.option.Option.{Option}
 use Rattle.std.specs.declared.option.Option.the-variants.{Some, None}
 use Rattle.std.specs.declared.result.Result.{Result}
@@ -18,9 +18,9 @@ use Rattle.rows.specs.Image.{recordOf, kindIn, firstIn, secondIn, uIn, vIn, num
 use Rattle.rows.specs.Rows.{rowLimit, isRow, combinationOf, sameRow}
 use Rattle.rows.proofs.Fields.{le16-lt}
 use Rattle.rows.proofs.Same.{same-back, same-self}
-use Rattle.rows.proofs.RecordBytes.{Held, AsInput, AsStep, input-forth, step-forth, input-back, step-back}
+use Rattle.rows.proofs.RecordBytes.{AsInput, AsStep, input-back, step-back}
 use Rattle.reader.specs.Exactness.{shownOf}
-use Rattle.reader.specs.Reading.{kindRight, parentsRight, combinationRight}
+use Rattle.reader.specs.Reading.{kindRight}
 use Rattle.reader.specs.Shown.{Shown}
 use Rattle.reader.specs.Shown as shown
 use Rattle.reader.specs.declared.refusal.Refusal.{Refusal}

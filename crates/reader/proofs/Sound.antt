@@ -1,28 +1,26 @@
 -- Bytes that are accepted are the image of the derivation that they show.
 use mathlib.Core.Path.{_≡_, refl, sym, ap, subst, _∙_}
-use mathlib.Core.List.{List, [], _∷_, _++_, map}
-use mathlib.Core.Bool.{true, _&&_}
-use Prim.Native.Nat.{ℕ, zero, suc, _+_, _-_, _*_, _/_, _%_, _<_, _≤_, _^_}
+use mathlib.Core.List.{List, [], _++_}
+use mathlib.Core.Bool.{_&&_}
+use Prim.Native.Nat.{ℕ, zero, suc, _+_, _-_, _*_, _/_, _<_, _≤_}
 use native.Mathlib.Omega.{arith}
-use lib.Dec.{eqb, leb}
+use lib.Dec.{eqb}
 use lib.ListN.{length, getD, take, drop}
 use Rattle.std.specs.Iters.{counting}
-use Rattle.std.specs.shelf.Lists.{All, joined}
+use Rattle.std.specs.shelf.Lists.{joined}
 use Rattle.std.proofs.shelf.Counted.{length-map-counting, getD-map-counting}
 use Rattle.std.proofs.shelf.Elements.{all-take, all-drop, all-from-getD}
-use Rattle.std.proofs.shelf.Lists.{length-take, length-drop, length-take-le}
-use Rattle.std.proofs.shelf.Tests.{eqb-true, leb-true, and-parts}
-use Rattle.rows.specs.Bytes.{AllBytes, le16, le32, zerosIn, sealOf}
-use Rattle.rows.specs.Derivations.{Record, input, rowIn, rowAt, Stands, Derivation, IsDerivation}
+use Rattle.std.proofs.shelf.Lists.{length-take, length-drop}
+use Rattle.std.proofs.shelf.Tests.{eqb-true, and-parts}
+use Rattle.rows.specs.Bytes.{AllBytes, le16, le32, zerosIn}
+use Rattle.rows.specs.Derivations.{Record, input, rowIn, rowAt, Stands, IsDerivation}
 use Rattle.rows.specs.Image.{blockOf, recordOf, numbersIn, recordShown, unknownsIn, recordsIn, derivationShown, countIn, blocksFor, imageSize, recordBytes, headerBytes, recordsBlock, imageOf}
-use Rattle.rows.proofs.BlockBytes.{AsBlock, AsHeader, block-back, header-back, headerHeld}
+use Rattle.rows.proofs.BlockBytes.{AsBlock, block-back, header-back, headerHeld}
 use Rattle.rows.proofs.Images.{Nine, length-held, held-back, blocks-of}
-use Rattle.rows.proofs.RecordBytes.{length-record}
-use Rattle.reader.specs.Reading.{sealRight, frameRight, headerRight}
 use Rattle.reader.proofs.Headers.{HeaderYes, header-yes}
 use Rattle.reader.proofs.Records.{row-shown, bytes-shown, stands-shown}
 use Rattle.reader.proofs.Yes.{BlockYes, AllYes}
-use Rattle.rows.specs.Rows.{isRow, isFalse}
+use Rattle.rows.specs.Rows.{isFalse}
 
 -- a block whose seal and frame are right, and which holds these bytes
 as-block : (block : List ℕ) (number count : ℕ) (held : List ℕ) → BlockYes block number count (8 + length held) → held ≡ take (length held) (drop 8 block) → AsBlock block number count held

@@ -5,7 +5,6 @@ use Prim.Native.Nat.{ℕ, zero, suc, _+_, _-_, _*_, _%_, _≤_}
 use lib.Dec.{eqb, leb}
 use lib.ListN.{length, take}
 use Rattle.std.specs.declared.result.Result.{Result}
-use Rattle.std.specs.declared.result.Result.the-variants.{Ok, Err}
 use Rattle.rows.specs.Bytes.{le16, le32, zerosIn, sealOf}
 use Rattle.rows.specs.Derivations.{areParents}
 use Rattle.rows.specs.Image.{blockOf, recordOf, kindIn, firstIn, secondIn, uIn, vIn, numbersIn, isInput, unknownsIn, recordsIn, countIn, blocksFor, imageSize}
