@@ -15,10 +15,11 @@ use Rattle.std.proofs.shelf.Elements.{all-from-getD}
 use Rattle.std.proofs.shelf.Lists.{length-append}
 use Rattle.rows.specs.Bytes.{AllBytes}
 use Rattle.rows.specs.Derivations.{Record, isGiven, inputsOf, Derivation, IsDerivation}
-use Rattle.rows.specs.Image.{recordOf, recordShown, unknownsIn, recordsIn, derivationShown, imageOf, isInput}
+use Rattle.rows.specs.Image.{recordOf, unknownsIn, recordsIn, imageOf, isInput}
 use Rattle.rows.specs.Questions.{answered}
 use Rattle.rows.proofs.Consequences.{none-fits}
-use Rattle.rows.proofs.Images.{all-image, shown-back}
+use Rattle.rows.proofs.Images.{derivationShown, all-image, shown-back}
+use Rattle.rows.proofs.RecordBytes.{recordShown}
 use Rattle.reader.specs.Exactness.{Shows, shownOf, AcceptsExactlyImages}
 use Rattle.reader.specs.Reading.{Reading, imageAsked, inputsBelow, readingOf, readOf}
 use Rattle.reader.specs.declared.refusal.Refusal.{Refusal}

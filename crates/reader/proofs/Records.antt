@@ -14,11 +14,11 @@ use Rattle.std.specs.declared.result.Result.the-variants.{Ok}
 use Rattle.std.proofs.shelf.Tests.{eqb-true, eq-eqb, ltb-true, and-parts, or-left, or-right, true≢false}
 use Rattle.rows.specs.Bytes.{AllBytes, zerosIn}
 use Rattle.rows.specs.Derivations.{Record, input, step, isGiven, rowIn, rowAt, areParents, Stands}
-use Rattle.rows.specs.Image.{recordOf, kindIn, firstIn, secondIn, uIn, vIn, numbersIn, isInput, recordShown, recordBytes}
+use Rattle.rows.specs.Image.{recordOf, kindIn, firstIn, secondIn, uIn, vIn, numbersIn, isInput, recordBytes}
 use Rattle.rows.specs.Rows.{rowLimit, isRow, combinationOf, sameRow}
 use Rattle.rows.proofs.Fields.{le16-lt}
 use Rattle.rows.proofs.Same.{same-back, same-self}
-use Rattle.rows.proofs.RecordBytes.{AsInput, AsStep, input-back, step-back}
+use Rattle.rows.proofs.RecordBytes.{recordShown, AsInput, AsStep, input-back, step-back}
 use Rattle.reader.specs.Exactness.{shownOf}
 use Rattle.reader.specs.Reading.{kindRight}
 use Rattle.reader.specs.Shown.{Shown}

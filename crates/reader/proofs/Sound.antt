@@ -14,13 +14,14 @@ use Rattle.std.proofs.shelf.Lists.{length-take, length-drop}
 use Rattle.std.proofs.shelf.Tests.{eqb-true, and-parts}
 use Rattle.rows.specs.Bytes.{AllBytes, le16, le32, zerosIn}
 use Rattle.rows.specs.Derivations.{Record, input, rowIn, rowAt, Stands, IsDerivation}
-use Rattle.rows.specs.Image.{blockOf, recordOf, numbersIn, recordShown, unknownsIn, recordsIn, derivationShown, countIn, blocksFor, imageSize, recordBytes, headerBytes, recordsBlock, imageOf}
+use Rattle.rows.specs.Image.{blockOf, recordOf, numbersIn, unknownsIn, recordsIn, countIn, blocksFor, imageSize, recordBytes, headerBytes, recordsBlock, imageOf}
 use Rattle.rows.proofs.BlockBytes.{AsBlock, block-back, header-back, headerHeld}
-use Rattle.rows.proofs.Images.{Nine, length-held, held-back, blocks-of}
+use Rattle.rows.proofs.Images.{derivationShown, Nine, length-held, held-back, blocks-of}
 use Rattle.reader.proofs.Headers.{HeaderYes, header-yes}
 use Rattle.reader.proofs.Records.{row-shown, bytes-shown, stands-shown}
 use Rattle.reader.proofs.Yes.{BlockYes, AllYes}
 use Rattle.rows.specs.Rows.{isFalse}
+use Rattle.rows.proofs.RecordBytes.{recordShown}
 
 -- a block whose seal and frame are right, and which holds these bytes
 as-block : (block : List ℕ) (number count : ℕ) (held : List ℕ) → BlockYes block number count (8 + length held) → held ≡ take (length held) (drop 8 block) → AsBlock block number count held

@@ -1,6 +1,6 @@
 -- Where a derivation's blocks and records stand in its image, and what bytes of that length consist of.
 use mathlib.Core.Path.{_≡_, refl, sym, ap, _∙_}
-use mathlib.Core.List.{List, [], _∷_, _++_}
+use mathlib.Core.List.{List, [], _∷_, _++_, map}
 use Prim.Native.Nat.{ℕ, zero, suc, _+_, _-_, _*_, _/_, _%_, _<_, _≤_}
 use native.Mathlib.Nat.{mul-zero, zero-add}
 use native.Mathlib.Omega.{arith}
@@ -13,9 +13,16 @@ use Rattle.std.proofs.shelf.Elements.{all-append, all-drop, all-from-getD, all-
 use Rattle.std.proofs.shelf.Lists.{drop-at, drop-drop, drop-take, getD-drop, getD-take, length-append, length-drop, length-take, take-all, take-append-drop, take-at, take-take}
 use Rattle.rows.specs.Bytes.{AllBytes, le16}
 use Rattle.rows.specs.Derivations.{Record, input, step, rowIn, Derivation, IsDerivation}
-use Rattle.rows.specs.Image.{blockOf, recordOf, recordShown, countIn, blocksFor, imageSize, unknownsIn, recordsIn, recordBytes, blockBody, sealed, headerBytes, recordsBlock, imageOf, derivationShown, OneImageEach}
+use Rattle.rows.specs.Image.{blockOf, recordOf, countIn, blocksFor, imageSize, unknownsIn, recordsIn, recordBytes, blockBody, sealed, headerBytes, recordsBlock, imageOf, OneImageEach}
 use Rattle.rows.proofs.BlockBytes.{AsHeader, headerHeld, all-headerHeld, all-block, header-forth, held-in, length-block}
-use Rattle.rows.proofs.RecordBytes.{Held, all-joined, all-record, length-record, shown-forth, stands-held}
+use Rattle.rows.proofs.RecordBytes.{recordShown, Held, all-joined, all-record, length-record, shown-forth, stands-held}
+
+-- the derivation that an image shows
+abbrev pub derivationShown : List ℕ → Derivation
+derivationShown bytes = record {
+  unknowns = unknownsIn bytes;
+  records = map (λ r. recordShown (recordOf bytes r)) (counting 0 (recordsIn bytes));
+}
 
 -- rows of nine numbers, so that each record has its 60 bytes
 abbrev pub Nine : List Record → Type 0

@@ -1,7 +1,7 @@
 -- A record and its 60 bytes: each shows the other.
 use mathlib.Core.Path.{_≡_, refl, sym, ap, ap₂, _∙_}
 use mathlib.Core.List.{List, [], _∷_, _++_}
-use mathlib.Core.Bool.{true, _&&_}
+use mathlib.Core.Bool.{true, cond, _&&_}
 use Prim.Native.Nat.{ℕ, zero, suc, _+_, _*_, _<_, _≤_, _^_}
 use native.Mathlib.Omega.{arith}
 use borrow.Author.Differences.{ints}
@@ -18,9 +18,16 @@ use Rattle.arith.specs.Lowest.{AllWithin, withinAll, gcdAll}
 use Rattle.arith.proofs.LowestForms.{within-is}
 use Rattle.rows.specs.Bytes.{AllBytes, leI32, bytes16, bytes32, bytesI32, zerosIn}
 use Rattle.rows.specs.Derivations.{Record, input, step, rowIn, Stands}
-use Rattle.rows.specs.Image.{kindIn, firstIn, secondIn, uIn, vIn, numbersIn, recordShown, zeroBytes, rowBytes, recordBytes}
+use Rattle.rows.specs.Image.{kindIn, firstIn, secondIn, uIn, vIn, numbersIn, isInput, zeroBytes, rowBytes, recordBytes}
 use Rattle.rows.specs.Rows.{rowLimit, inLowest, isRow, levelOf}
 use Rattle.rows.proofs.Fields.{join, le16-at, le32-at, leI32-at, bytes16-le16, bytes32-le32, bytesI32-leI32, all-bytes16, all-bytes32, all-zeros, zeros-back, zeros-at}
+
+-- the record that 60 bytes show
+unfoldable pub recordShown : List ℕ → Record
+recordShown rec =
+    cond (isInput rec)
+    (input (firstIn rec) (numbersIn rec))
+    (step (firstIn rec) (secondIn rec) (uIn rec) (vIn rec) (numbersIn rec))
 
 -- each number has its place
 abbrev pub RowHeld : List ℤ → Type 0

@@ -2,7 +2,7 @@
 --   Each block: bytes 0-3 its number, 4-5 its count of records, 508-511 its seal. Header: bytes 8-9 edition 1, 10-11 n, 12-13 t.
 --   Record c of a block begins at byte 8 + 60·c: byte 0 kind, 4-5 tag or first parent, 6-7 second parent, 8-11 u, 12-15 v, 16-51 a1..a8 and b.
 --   Unassigned bytes are zero.
-use mathlib.Core.Bool.{Bool, cond}
+use mathlib.Core.Bool.{Bool}
 use mathlib.Core.List.{List, _∷_, _++_, map}
 use mathlib.Core.Path.{_≡_}
 use Prim.Native.Nat.{ℕ, zero, suc, _+_, _-_, _*_, _/_, _%_, min}
@@ -52,26 +52,12 @@ numbersIn rec = map (λ k. leI32 rec (placeOf k)) (counting 0 9)
 abbrev pub isInput : List ℕ → Bool
 isInput rec = eqb (kindIn rec) 1
 
--- the record that 60 bytes show
-unfoldable pub recordShown : List ℕ → Record
-recordShown rec =
-    cond (isInput rec)
-    (input (firstIn rec) (numbersIn rec))
-    (step (firstIn rec) (secondIn rec) (uIn rec) (vIn rec) (numbersIn rec))
-
 -- n and t, as the header has them
 abbrev pub unknownsIn : List ℕ → ℕ
 unknownsIn bytes = le16 (blockOf bytes 0) 10
 
 abbrev pub recordsIn : List ℕ → ℕ
 recordsIn bytes = le16 (blockOf bytes 0) 12
-
--- the derivation that an image shows
-abbrev pub derivationShown : List ℕ → Derivation
-derivationShown bytes = record {
-  unknowns = unknownsIn bytes;
-  records = map (λ r. recordShown (recordOf bytes r)) (counting 0 (recordsIn bytes));
-}
 
 -- the records of block b + 1, of t in all
 abbrev pub countIn : ℕ → ℕ → ℕ
