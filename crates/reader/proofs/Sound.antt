@@ -2,7 +2,7 @@
 use mathlib.Core.Path.{_≡_, refl, sym, ap, subst, _∙_}
 use mathlib.Core.List.{List, [], _++_}
 use mathlib.Core.Bool.{_&&_}
-use Prim.Native.Nat.{ℕ, zero, suc, _+_, _-_, _*_, _/_, _<_, _≤_}
+use Prim.Native.Nat.{ℕ, _+_, _-_, _*_, _/_, _<_, _≤_}
 use native.Mathlib.Omega.{arith}
 use lib.Dec.{eqb}
 use lib.ListN.{length, getD, take, drop}
@@ -21,6 +21,7 @@ use Rattle.reader.proofs.Headers.{HeaderYes, header-yes}
 use Rattle.reader.proofs.Records.{row-shown, bytes-shown, stands-shown}
 use Rattle.reader.proofs.Yes.{BlockYes, AllYes}
 use Rattle.rows.specs.Rows.{isFalse}
+use Rattle.rows.proofs.Joins.{joined-same}
 use Rattle.rows.proofs.RecordBytes.{recordShown}
 
 -- a block whose seal and frame are right, and which holds these bytes
@@ -30,13 +31,6 @@ as-block block number count held h e =
     let b = and-parts (eqb (le16 block 4) count) (zerosIn block 6 8 && zerosIn block (8 + length held) 508) (a .1) in
     let c = and-parts (zerosIn block 6 8) (zerosIn block (8 + length held) 508) (b .1) in
     record { seal = eqb-true _ _ (h .seal); its-number = eqb-true _ _ (a .0); its-count = eqb-true _ _ (b .0); before = c .0; after = c .1; its-held = e }
-
--- functions that agree on the numbers counted
-joined-same : {A : Type 0} (f g : ℕ → List A) (a n : ℕ) → ((b : ℕ) → b < a + n → f b ≡ g b) → joined f (counting a n) ≡ joined g (counting a n)
-joined-same f g a zero h = refl
-joined-same f g a (suc n) h =
-    ap (λ xs. xs ++ joined f (counting (a + 1) n)) (h a (omega arith))
-    ∙ ap (λ xs. g a ++ xs) (joined-same f g (a + 1) n (λ b l. h b (omega arith)))
 
 module _ (bytes : List ℕ) where
   pub length-shown : length (derivationShown bytes .records) ≡ recordsIn bytes

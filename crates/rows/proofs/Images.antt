@@ -1,11 +1,10 @@
 -- Where a derivation's blocks and records stand in its image, and what bytes of that length consist of.
 use mathlib.Core.Path.{_≡_, refl, sym, ap, _∙_}
-use mathlib.Core.List.{List, [], _∷_, _++_, map}
-use Prim.Native.Nat.{ℕ, zero, suc, _+_, _-_, _*_, _/_, _%_, _<_, _≤_}
-use native.Mathlib.Nat.{mul-zero, zero-add}
+use mathlib.Core.List.{List, [], _++_, map}
+use Prim.Native.Nat.{ℕ, _+_, _-_, _*_, _/_, _%_, _<_, _≤_}
+use native.Mathlib.Nat.{zero-add}
 use native.Mathlib.Omega.{arith}
 use lib.ListN.{length, getD, take, drop}
-use lib.Seq.{take-add}
 use Rattle.std.specs.Iters.{counting}
 use Rattle.std.specs.shelf.Lists.{All, joined}
 use Rattle.std.proofs.shelf.Counted.{length-counting, getD-counting, fill-by-all}
@@ -15,7 +14,8 @@ use Rattle.rows.specs.Bytes.{AllBytes, le16}
 use Rattle.rows.specs.Derivations.{Record, input, step, rowIn, Derivation, IsDerivation}
 use Rattle.rows.specs.Image.{blockOf, recordOf, countIn, blocksFor, imageSize, unknownsIn, recordsIn, recordBytes, blockBody, sealed, headerBytes, recordsBlock, imageOf, OneImageEach}
 use Rattle.rows.proofs.BlockBytes.{AsHeader, headerHeld, all-headerHeld, all-block, header-forth, held-in, length-block}
-use Rattle.rows.proofs.RecordBytes.{recordShown, Held, all-joined, all-record, length-record, shown-forth, stands-held}
+use Rattle.rows.proofs.Joins.{length-joined, joined-at, joined-back, all-joined}
+use Rattle.rows.proofs.RecordBytes.{recordShown, Held, all-record, length-record, shown-forth, stands-held}
 
 -- the derivation that an image shows
 abbrev pub derivationShown : List ℕ → Derivation
@@ -38,33 +38,6 @@ held-at d h r l = stands-held (d .unknowns) (d .records) r (getD (d .records) r 
 pub derivation-nine : (d : Derivation) → IsDerivation d → Nine (d .records)
 derivation-nine d h =
     all-from-getD (λ rec. length (rowIn rec) ≡ 9) (d .records) (input 0 []) (λ r k. held-nine (getD (d .records) r (input 0 [])) (held-at d h r k))
-
--- parts of k elements, joined: how long they are, where each stands, and what they are if each is what stands there
-module _ {X A : Type 0} (f : X → List A) (k : ℕ) where
-  length-joined : (xs : List X) → All (λ x. length (f x) ≡ k) xs → length (joined f xs) ≡ k * length xs
-  length-joined [] h = omega arith
-  length-joined (x ∷ xs) h =
-      let here : length (f x) ≡ k = h .0 in
-      let there = length-joined xs (h .1) in
-      length-append (f x) (joined f xs) ∙ omega arith
-
-  joined-at : (xs : List X) (b : ℕ) (d : X) → All (λ x. length (f x) ≡ k) xs → b < length xs → take k (drop (k * b) (joined f xs)) ≡ f (getD xs b d)
-  joined-at [] b d h l = absurd (omega arith)
-  joined-at (x ∷ xs) zero d h l = rw mul-zero (take-at (f x) (joined f xs) k (h .0))
-  joined-at (x ∷ xs) (suc b) d h l =
-      let m : k * suc b ≡ k + k * b = omega arith in
-      let e : drop (k + k * b) (f x ++ joined f xs) ≡ drop (k * b) (joined f xs) =
-      sym (drop-drop (k * b) k (f x ++ joined f xs)) ∙ ap (drop (k * b)) (drop-at (f x) (joined f xs) k (h .0)) in
-      rw (m, e) (joined-at xs b d (h .1) (omega arith))
-
-  joined-back : (xs : List X) (ys : List A) (d : X) → ((i : ℕ) → i < length xs → f (getD xs i d) ≡ take k (drop (k * i) ys)) → joined f xs ≡ take (k * length xs) ys
-  joined-back [] ys d h = rw mul-zero
-  joined-back (x ∷ xs) ys d h =
-      let m : (n : ℕ) → k * suc n ≡ k + k * n = λ n. omega arith in
-      let here : f x ≡ take k ys = rw mul-zero at (h 0 (omega arith)) in
-      let there : joined f xs ≡ take (k * length xs) (drop k ys) =
-      joined-back xs (drop k ys) d (λ i l. rw (drop-drop, ← m i) (h (suc i) (omega arith))) in
-      rw (here, there, m (length xs)) (sym (take-add k (k * length xs) ys))
 
 -- the records of block b + 1
 abbrev eight : List Record → ℕ → List Record

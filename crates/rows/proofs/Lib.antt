@@ -5,6 +5,7 @@ pub mod Outcomes
 pub mod Same
 pub mod Asking
 pub mod Fields
+pub mod Joins
 pub mod RecordBytes
 pub mod BlockBytes
 pub mod Images

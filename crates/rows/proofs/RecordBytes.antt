@@ -21,6 +21,7 @@ use Rattle.rows.specs.Derivations.{Record, input, step, rowIn, Stands}
 use Rattle.rows.specs.Image.{kindIn, firstIn, secondIn, uIn, vIn, numbersIn, isInput, zeroBytes, rowBytes, recordBytes}
 use Rattle.rows.specs.Rows.{rowLimit, inLowest, isRow, levelOf}
 use Rattle.rows.proofs.Fields.{join, le16-at, le32-at, leI32-at, bytes16-le16, bytes32-le32, bytesI32-leI32, all-bytes16, all-bytes32, all-zeros, zeros-back, zeros-at}
+use Rattle.rows.proofs.Joins.{length-joined, all-joined}
 
 -- the record that 60 bytes show
 unfoldable pub recordShown : List ℕ → Record
@@ -56,19 +57,14 @@ pub record AsStep (rec : List ℕ) (first second u v : ℕ) (row : List ℤ) : T
   pub after-kind : zerosIn rec 1 4 ≡ true
   pub after-row : zerosIn rec 52 60 ≡ true
 
--- the bytes of a row's numbers
-length-joined : (zs : List ℤ) → length (joined bytesI32 zs) ≡ 4 * length zs
-length-joined [] = refl
-length-joined (z ∷ zs) = let l = length-joined zs in simp length-append (omega arith)
-
+-- the bytes of a row
 length-row : (row : List ℤ) → length row ≡ 9 → length (rowBytes row) ≡ 36
 unfolding rowBytes
 length-row [] h = absurd (omega arith)
-length-row (b ∷ zs) h = omega (arith, length-joined (zs ++ b ∷ []), length-push zs b)
-
-pub all-joined : {X : Type 0} (f : X → List ℕ) (xs : List X) → All (λ x. AllBytes (f x)) xs → AllBytes (joined f xs)
-all-joined f [] h = tt
-all-joined f (x ∷ xs) h = all-append _ (f x) (joined f xs) (h .0) (all-joined f xs (h .1))
+length-row (b ∷ zs) h =
+    let numbers : List ℤ = zs ++ b ∷ [] in
+    let four = length-joined bytesI32 4 numbers (all-from-getD (λ z. length (bytesI32 z) ≡ 4) numbers (pos 0) (λ k l. refl)) in
+    omega (arith, four, length-push zs b)
 
 all-row : (row : List ℤ) → AllBytes (rowBytes row)
 unfolding rowBytes
