@@ -8,14 +8,18 @@ use std::alloc::Global;
 use std::error::AnyError;
 
 #[derive(Drop)]
-pub struct Taken {
-    pub unknowns: usize,
-    pub origins: Vec<Origin>,
-    pub rows: Vec<PlainRow>,
+pub(crate) struct Taken {
+    pub(crate) unknowns: usize,
+    pub(crate) origins: Vec<Origin>,
+    pub(crate) rows: Vec<PlainRow>,
 }
 
 // The records that are shown, and the unknowns that the header has.
-pub fn take_apart(heap: Global, image: &[u8], accepted: &Accepted) -> Result<Taken, AnyError> {
+pub(crate) fn take_apart(
+    heap: Global,
+    image: &[u8],
+    accepted: &Accepted,
+) -> Result<Taken, AnyError> {
     let mut origins = Vec::new(heap);
     let mut rows = Vec::new(heap);
     for r in 0..accepted.records() {
