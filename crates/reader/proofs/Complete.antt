@@ -16,8 +16,9 @@ use Rattle.rows.specs.Rows.{isFalse}
 use Rattle.rows.proofs.BlockBytes.{AsBlock, AsHeader, block-forth, headerHeld, all-headerHeld}
 use Rattle.rows.proofs.Images.{Nine, held-at, derivation-nine, length-image, header-at, block-at, record-at, length-held, all-held, as-header, unknowns-in, records-in}
 use Rattle.rows.proofs.RecordBytes.{Held, AsInput, AsStep, input-forth, step-forth, shown-forth}
+use Rattle.rows.proofs.Standing.{parents}
 use Rattle.reader.specs.Reading.{isLength, headerRight, imageAsked}
-use Rattle.reader.proofs.Records.{row-shown, yes-input, yes-step, earlier}
+use Rattle.reader.proofs.Records.{row-shown, yes-input, yes-step}
 use Rattle.reader.proofs.Yes.{RecordYes, BlockYes, yes-all}
 
 is-length : (t : ℕ) → 1 ≤ t → t ≤ 256 → isLength (imageSize t) ≡ true
@@ -76,9 +77,9 @@ module _ (d : Derivation) (h : IsDerivation d) where
       go : (rec : Record) → recordOf (imageOf d) r ≡ recordBytes rec → Stands (d .unknowns) (d .records) r rec → Held rec → RecordYes (imageOf d) (d .unknowns) r
       go (input tag row) e s k = yes-input (imageOf d) (d .unknowns) r tag row (subst (λ rec. AsInput rec tag row) (sym e) (input-forth tag row k)) (s .0)
       go (step first second u v row) e s k =
-          let p = earlier r first second u v (s .1) in
-          let i = numbers-at first (omega arith) in
-          let j = numbers-at second (omega arith) in
+          let p = parents r first second u v (s .1) in
+          let i = numbers-at first (omega (arith, p .first-earlier)) in
+          let j = numbers-at second (omega (arith, p .second-earlier)) in
           yes-step (imageOf d) (d .unknowns) r first second u v row (subst (λ rec. AsStep rec first second u v row) (sym e) (step-forth first second u v row k)) (s .0) (s .1)
           (rw (i, j) (s .2))
 

@@ -2,38 +2,30 @@
 use mathlib.Core.Path.{_≡_, refl, sym, ap, subst, _∙_}
 use mathlib.Core.List.{List}
 use mathlib.Core.Bool.{Bool, true, false, cond, _&&_, _||_}
-use Prim.Native.Nat.{ℕ, _+_, _-_, _<_}
+use Prim.Native.Nat.{ℕ, _-_, _<_}
 use native.Mathlib.Omega.{arith}
-use lib.Dec.{eqb, leb, ltb}
+use lib.Dec.{eqb}
 use lib.IntN.{ℤ}
 use lib.ListN.{length}
 use Rattle.std.specs.declared.option.Option.{Option}
 use Rattle.std.specs.declared.option.Option.the-variants.{Some, None}
 use Rattle.std.specs.declared.result.Result.{Result}
 use Rattle.std.specs.declared.result.Result.the-variants.{Ok}
-use Rattle.std.proofs.shelf.Tests.{eqb-true, eq-eqb, ltb-true, and-parts, or-left, or-right, true≢false}
+use Rattle.std.proofs.shelf.Tests.{eqb-true, eq-eqb, and-parts, or-left, or-right, true≢false}
 use Rattle.rows.specs.Bytes.{AllBytes, zerosIn}
 use Rattle.rows.specs.Derivations.{Record, input, step, isGiven, rowIn, rowAt, areParents, Stands}
 use Rattle.rows.specs.Image.{recordOf, kindIn, firstIn, secondIn, uIn, vIn, numbersIn, isInput, recordBytes}
-use Rattle.rows.specs.Rows.{rowLimit, isRow, combinationOf, sameRow}
+use Rattle.rows.specs.Rows.{isRow, combinationOf, sameRow}
 use Rattle.rows.proofs.Fields.{le16-lt}
 use Rattle.rows.proofs.Same.{same-back, same-self}
-use Rattle.rows.proofs.RecordBytes.{recordShown, AsInput, AsStep, input-back, step-back}
+use Rattle.rows.proofs.RecordBytes.{recordShown, shown-input, shown-step, AsInput, AsStep, input-back, step-back}
+use Rattle.rows.proofs.Standing.{parents}
 use Rattle.reader.specs.Exactness.{shownOf}
 use Rattle.reader.specs.Reading.{kindRight}
 use Rattle.reader.specs.Shown.{Shown}
 use Rattle.reader.specs.Shown as shown
 use Rattle.reader.specs.declared.refusal.Refusal.{Refusal}
 use Rattle.reader.proofs.Yes.{RecordYes}
-
--- the two kinds
-shown-input : (rec : List ℕ) → isInput rec ≡ true → recordShown rec ≡ input (firstIn rec) (numbersIn rec)
-unfolding recordShown
-shown-input rec h = rw h
-
-shown-step : (rec : List ℕ) → isInput rec ≡ false → recordShown rec ≡ step (firstIn rec) (secondIn rec) (uIn rec) (vIn rec) (numbersIn rec)
-unfolding recordShown
-shown-step rec h = rw h
 
 pub row-shown : (rec : List ℕ) → rowIn (recordShown rec) ≡ numbersIn rec
 row-shown rec = go (isInput rec) refl
@@ -103,12 +95,6 @@ or-rest : (x y : Bool) → x ≡ false → (x || y) ≡ true → y ≡ true
 or-rest false y p h = h
 or-rest true y p h = absurd (true≢false p)
 
-pub earlier : (r first second u v : ℕ) → areParents r first second u v ≡ true → (first < r) × (second < r)
-earlier r first second u v h =
-    let a = and-parts (ltb first r) (ltb second r && (leb u rowLimit && (leb v rowLimit && ltb 0 (u + v)))) h in
-    let b = and-parts (ltb second r) (leb u rowLimit && (leb v rowLimit && ltb 0 (u + v))) (a .1) in
-    (ltb-true _ _ (a .0), ltb-true _ _ (b .0))
-
 -- record r stands right among records whose earlier rows are those of the image
 pub stands-shown : (bytes : List ℕ) (n r : ℕ) (records : List Record) → length (recordOf bytes r) ≡ 60 → AllBytes (recordOf bytes r) → RecordYes bytes n r
     → ((i : ℕ) → i < r → rowAt records i ≡ numbersIn (recordOf bytes i)) → Stands n records r (recordShown (recordOf bytes r))
@@ -122,9 +108,9 @@ stands-shown bytes n r records l b h rows = go (isInput rec) refl
     go false k =
         let p : areParents r (firstIn rec) (secondIn rec) (uIn rec) (vIn rec) ≡ true = or-rest (isInput rec) _ k (h .parents) in
         let c = same-row _ (numbersIn rec) (or-rest (isInput rec) _ k (h .combination)) in
-        let e = earlier r (firstIn rec) (secondIn rec) (uIn rec) (vIn rec) p in
-        let first = rows (firstIn rec) (e .0) in
-        let second = rows (secondIn rec) (e .1) in
+        let e = parents r (firstIn rec) (secondIn rec) (uIn rec) (vIn rec) p in
+        let first = rows (firstIn rec) (e .first-earlier) in
+        let second = rows (secondIn rec) (e .second-earlier) in
         subst (Stands n records r) (sym (shown-step rec k)) (h .row, p, rw (first, second) c)
 
 -- the answers about a record's bytes, for a record that stands right

@@ -23,6 +23,7 @@ use Rattle.reader.proofs.Yes.{BlockYes, AllYes}
 use Rattle.rows.specs.Rows.{isFalse}
 use Rattle.rows.proofs.Joins.{joined-same}
 use Rattle.rows.proofs.RecordBytes.{recordShown}
+use Rattle.rows.proofs.Standing.{row-nine}
 
 -- a block whose seal and frame are right, and which holds these bytes
 as-block : (block : List ℕ) (number count : ℕ) (held : List ℕ) → BlockYes block number count (8 + length held) → held ≡ take (length held) (drop 8 block) → AsBlock block number count held
@@ -85,7 +86,7 @@ module _ (bytes : List ℕ) (fit : AllBytes bytes) (h : AllYes bytes (unknownsIn
   nine =
       all-from-getD (λ rec. length (rowIn rec) ≡ 9) (derivationShown bytes .records) (input 0 []) (λ r l.
       let k = below r l in
-      ap length (row-at bytes r k) ∙ eqb-true _ 9 (and-parts _ _ (h .records r k .row) .0))
+      ap length (row-at bytes r k) ∙ row-nine (unknownsIn bytes) (numbersIn (recordOf bytes r)) (h .records r k .row))
 
   -- the header and the other blocks
   block-bytes : (b : ℕ) → AllBytes (blockOf bytes b)

@@ -5,22 +5,23 @@ use borrow.Author.Differences.{ints}
 use mathlib.Core.Bool.{Bool, true, false, cond, _&&_}
 use mathlib.Core.List.{List, [], _∷_, map}
 use mathlib.Core.Path.{_≡_, refl, sym, _∙_}
-use lib.Dec.{eqb, leb, ltb}
+use lib.Dec.{eqb, leb}
 use lib.IntN.{ℤ, pos, _+ℤ_, _*ℤ_, *ℤ-comm, +ℤ-idr}
 use lib.ListN.{getD, length}
 use lib.Signed.{_≤ℤ_, ltZ}
 use Rattle.std.specs.declared.option.Option.the-variants.{Some, None}
 use Rattle.std.specs.shelf.Lists.{All}
-use Rattle.std.proofs.shelf.Tests.{and-parts, eqb-true, ltb-true}
+use Rattle.std.proofs.shelf.Tests.{and-parts, eqb-true}
 use Rattle.arith.specs.Dot.{dot, combine}
 use Rattle.arith.specs.Lowest.{lowestOf}
 use Rattle.arith.proofs.Dots.{dot-combine-nonneg}
 use Rattle.arith.proofs.Integers.{sign-of-product}
 use Rattle.arith.proofs.LowestForms.{dot-lowest-nonneg}
-use Rattle.rows.specs.Rows.{rowLimit, Fractions, Satisfies, levelOf, isRow, isFalse, rowOf, combinationOf}
+use Rattle.rows.specs.Rows.{rowLimit, Fractions, Satisfies, levelOf, isFalse, rowOf, combinationOf}
 use Rattle.rows.specs.Derivations.{Record, input, step, rowIn, isGiven, inputsOf, rowAt, Stands, Derivation, IsDerivation, NoneFits}
 use Rattle.rows.proofs.Levels.{level-is}
 use Rattle.rows.proofs.Outcomes.{found-row}
+use Rattle.rows.proofs.Standing.{has-row, row-nine, parents}
 
 -- what satisfies two rows satisfies the lowest form of their combination, and so the row that came about
 pub lowest-follows : (u : ℕ) (first : List ℤ) (v : ℕ) (second : List ℤ) → length first ≡ length second → (point : List ℤ) → Satisfies point first → Satisfies point second → Satisfies point (lowestOf (combine (pos u) first (pos v) second))
@@ -65,10 +66,6 @@ given-at P (step first second u v row ∷ records) zero l a g = absurd (grind ar
 given-at P (input tag row ∷ records) (suc r) l a g = given-at P records r (omega arith) (a .1) g
 given-at P (step first second u v row ∷ records) (suc r) l a g = given-at P records r (omega arith) a g
 
-has-row : (n : ℕ) (records : List Record) (r : ℕ) (t : Record) → Stands n records r t → isRow n (rowIn t) ≡ true
-has-row n records r (input tag row) s = s .0
-has-row n records r (step first second u v row) s = s .0
-
 module _ (d : Derivation) (h : IsDerivation d) (point : List ℤ) (a : All (Satisfies point) (map rowIn (inputsOf (d .records)))) where
   -- by recursion on a bound above r: the parents of a step stand before r
   each-satisfied : (n r : ℕ) → r < n → r < length (d .records) → Satisfies point (rowAt (d .records) r)
@@ -78,15 +75,14 @@ module _ (d : Derivation) (h : IsDerivation d) (point : List ℤ) (a : All (Sati
     where
       long : (q : ℕ) → q < r → length (rowAt (d .records) q) ≡ 9
       long q k =
-          let w = has-row (d .unknowns) (d .records) q (getD (d .records) q (input 0 [])) (h .each-stands q (omega arith)) in
-          eqb-true _ _ (and-parts (eqb (length (rowAt (d .records) q)) 9) _ w .0)
+          row-nine (d .unknowns) (rowAt (d .records) q) (has-row (d .unknowns) (d .records) q (getD (d .records) q (input 0 [])) (h .each-stands q (omega arith)))
 
       on : (t : Record) → (isGiven t ≡ true → Satisfies point (rowIn t)) → Stands (d .unknowns) (d .records) r t → ((q : ℕ) → q < r → Satisfies point (rowAt (d .records) q)) → Satisfies point (rowIn t)
       on (input tag row) g s earlier = g refl
       on (step first second u v row) g s earlier =
-          let t = and-parts (ltb first r) _ (s .1) in
-          let i : first < r = ltb-true first r (t .0) in
-          let j : second < r = ltb-true second r (and-parts (ltb second r) _ (t .1) .0) in
+          let p = parents r first second u v (s .1) in
+          let i = p .first-earlier in
+          let j = p .second-earlier in
           combination-follows u (rowAt (d .records) first) v (rowAt (d .records) second) row (long first i ∙ sym (long second j)) (s .2) point (earlier first i) (earlier second j)
 
 pub none-fits : (d : Derivation) → IsDerivation d → NoneFits d

@@ -11,11 +11,12 @@ use Rattle.std.proofs.shelf.Counted.{length-counting, getD-counting, fill-by-al
 use Rattle.std.proofs.shelf.Elements.{all-append, all-drop, all-from-getD, all-take, all-weaker}
 use Rattle.std.proofs.shelf.Lists.{drop-at, drop-drop, drop-take, getD-drop, getD-take, length-append, length-drop, length-take, take-all, take-append-drop, take-at, take-take}
 use Rattle.rows.specs.Bytes.{AllBytes, le16}
-use Rattle.rows.specs.Derivations.{Record, input, step, rowIn, Derivation, IsDerivation}
+use Rattle.rows.specs.Derivations.{Record, input, rowIn, Derivation, IsDerivation}
 use Rattle.rows.specs.Image.{blockOf, recordOf, countIn, blocksFor, imageSize, unknownsIn, recordsIn, recordBytes, blockBody, sealed, headerBytes, recordsBlock, imageOf, OneImageEach}
 use Rattle.rows.proofs.BlockBytes.{AsHeader, headerHeld, all-headerHeld, all-block, header-forth, held-in, length-block}
 use Rattle.rows.proofs.Joins.{length-joined, joined-at, joined-back, all-joined}
 use Rattle.rows.proofs.RecordBytes.{recordShown, Held, all-record, length-record, shown-forth, stands-held}
+use Rattle.rows.proofs.Standing.{has-row, row-nine}
 
 -- the derivation that an image shows
 abbrev pub derivationShown : List ℕ → Derivation
@@ -28,16 +29,14 @@ derivationShown bytes = record {
 abbrev pub Nine : List Record → Type 0
 Nine records = All (λ rec. length (rowIn rec) ≡ 9) records
 
-held-nine : (rec : Record) → Held rec → length (rowIn rec) ≡ 9
-held-nine (input tag row) h = h .1 .0
-held-nine (step first second u v row) h = h .4 .0
-
 pub held-at : (d : Derivation) → IsDerivation d → (r : ℕ) → r < length (d .records) → Held (getD (d .records) r (input 0 []))
 held-at d h r l = stands-held (d .unknowns) (d .records) r (getD (d .records) r (input 0 [])) (omega (arith, h .some-records)) (h .each-stands r l)
 
 pub derivation-nine : (d : Derivation) → IsDerivation d → Nine (d .records)
 derivation-nine d h =
-    all-from-getD (λ rec. length (rowIn rec) ≡ 9) (d .records) (input 0 []) (λ r k. held-nine (getD (d .records) r (input 0 [])) (held-at d h r k))
+    all-from-getD (λ rec. length (rowIn rec) ≡ 9) (d .records) (input 0 []) (λ r k.
+    let rec : Record = getD (d .records) r (input 0 []) in
+    row-nine (d .unknowns) (rowIn rec) (has-row (d .unknowns) (d .records) r rec (h .each-stands r k)))
 
 -- the records of block b + 1
 abbrev eight : List Record → ℕ → List Record

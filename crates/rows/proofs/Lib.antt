@@ -6,6 +6,7 @@ pub mod Same
 pub mod Asking
 pub mod Fields
 pub mod Joins
+pub mod Standing
 pub mod RecordBytes
 pub mod BlockBytes
 pub mod Images

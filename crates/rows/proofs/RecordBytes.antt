@@ -1,11 +1,11 @@
 -- A record and its 60 bytes: each shows the other.
 use mathlib.Core.Path.{_≡_, refl, sym, ap, ap₂, _∙_}
 use mathlib.Core.List.{List, [], _∷_, _++_}
-use mathlib.Core.Bool.{true, cond, _&&_}
+use mathlib.Core.Bool.{true, false, cond, _&&_}
 use Prim.Native.Nat.{ℕ, zero, suc, _+_, _*_, _<_, _≤_, _^_}
 use native.Mathlib.Omega.{arith}
 use borrow.Author.Differences.{ints}
-use lib.Dec.{eqb, leb, ltb}
+use lib.Dec.{eqb, leb}
 use lib.IntN.{ℤ, pos, natAbs}
 use lib.ListN.{length, getD, take, drop}
 use mir.Syntax.{w32}
@@ -13,7 +13,7 @@ use mir.Val.{SFits}
 use Rattle.std.specs.shelf.Lists.{All, joined}
 use Rattle.std.proofs.shelf.Elements.{all-append, all-from-getD}
 use Rattle.std.proofs.shelf.Lists.{append-assoc, drop-more, length-append, length-push, same-from-push, take-all}
-use Rattle.std.proofs.shelf.Tests.{and-parts, eqb-true, leb-true, ltb-true}
+use Rattle.std.proofs.shelf.Tests.{and-parts}
 use Rattle.arith.specs.Lowest.{AllWithin, withinAll, gcdAll}
 use Rattle.arith.proofs.LowestForms.{within-is}
 use Rattle.rows.specs.Bytes.{AllBytes, leI32, bytes16, bytes32, bytesI32, zerosIn}
@@ -22,6 +22,7 @@ use Rattle.rows.specs.Image.{kindIn, firstIn, secondIn, uIn, vIn, numbersIn, i
 use Rattle.rows.specs.Rows.{rowLimit, inLowest, isRow, levelOf}
 use Rattle.rows.proofs.Fields.{join, le16-at, le32-at, leI32-at, bytes16-le16, bytes32-le32, bytesI32-leI32, all-bytes16, all-bytes32, all-zeros, zeros-back, zeros-at}
 use Rattle.rows.proofs.Joins.{length-joined, all-joined}
+use Rattle.rows.proofs.Standing.{row-nine, parents}
 
 -- the record that 60 bytes show
 unfoldable pub recordShown : List ℕ → Record
@@ -29,6 +30,14 @@ recordShown rec =
     cond (isInput rec)
     (input (firstIn rec) (numbersIn rec))
     (step (firstIn rec) (secondIn rec) (uIn rec) (vIn rec) (numbersIn rec))
+
+pub shown-input : (rec : List ℕ) → isInput rec ≡ true → recordShown rec ≡ input (firstIn rec) (numbersIn rec)
+unfolding recordShown
+shown-input rec h = rw h
+
+pub shown-step : (rec : List ℕ) → isInput rec ≡ false → recordShown rec ≡ step (firstIn rec) (secondIn rec) (uIn rec) (vIn rec) (numbersIn rec)
+unfolding recordShown
+shown-step rec h = rw h
 
 -- each number has its place
 abbrev pub RowHeld : List ℤ → Type 0
@@ -161,17 +170,13 @@ step-forth first second u v row h =
     }
 
 -- the record that such bytes show
-shown-input : (xs : List ℕ) (tag : ℕ) (row : List ℤ) → AsInput xs tag row → recordShown xs ≡ input tag row
-unfolding recordShown
-shown-input xs tag row h = rw (h .kind, h .its-tag, h .numbers)
-
-shown-step : (xs : List ℕ) (first second u v : ℕ) (row : List ℤ) → AsStep xs first second u v row → recordShown xs ≡ step first second u v row
-unfolding recordShown
-shown-step xs first second u v row h = rw (h .kind, h .its-first, h .its-second, h .its-u, h .its-v, h .numbers)
-
 pub shown-forth : (rec : Record) → Held rec → recordShown (recordBytes rec) ≡ rec
-shown-forth (input tag row) h = shown-input (recordBytes (input tag row)) tag row (input-forth tag row h)
-shown-forth (step first second u v row) h = shown-step (recordBytes (step first second u v row)) first second u v row (step-forth first second u v row h)
+shown-forth (input tag row) h =
+    let f = input-forth tag row h in
+    shown-input (recordBytes (input tag row)) (ap (λ kind. eqb kind 1) (f .kind)) ∙ rw (f .its-tag, f .numbers)
+shown-forth (step first second u v row) h =
+    let f = step-forth first second u v row h in
+    shown-step (recordBytes (step first second u v row)) (ap (λ kind. eqb kind 1) (f .kind)) ∙ rw (f .its-first, f .its-second, f .its-u, f .its-v, f .numbers)
 
 -- back: the kind, and the row with the zeros behind it
 kind-back : (xs : List ℕ) (k : ℕ) → length xs ≡ 60 → kindIn xs ≡ k → k ∷ [] ≡ take 1 (drop 0 xs)
@@ -208,7 +213,7 @@ row-held n row e =
     let p = and-parts (eqb (length row) 9) (inLowest row && leb (levelOf row) n) e in
     let q = and-parts (inLowest row) (leb (levelOf row) n) (p .1) in
     let w : AllWithin rowLimit row = within-is rowLimit row (and-parts (withinAll rowLimit row) (leb (gcdAll row) 1) (q .0) .0) in
-    (eqb-true (length row) 9 (p .0), all-from-getD (SFits w32) row (pos 0) (λ k l. fits (getD row k (pos 0)) (w k)))
+    (row-nine n row e, all-from-getD (SFits w32) row (pos 0) (λ k l. fits (getD row k (pos 0)) (w k)))
   where
     fits : (z : ℤ) → natAbs z ≤ rowLimit → SFits w32 z
     fits z h = omega (arith, ints)
@@ -216,12 +221,5 @@ row-held n row e =
 pub stands-held : (n : ℕ) (records : List Record) (r : ℕ) (rec : Record) → r ≤ 256 → Stands n records r rec → Held rec
 stands-held n records r (input tag row) h s = (s .1, row-held n row (s .0))
 stands-held n records r (step first second u v row) h s =
-    let p = and-parts (ltb first r) (ltb second r && (leb u rowLimit && (leb v rowLimit && ltb 0 (u + v)))) (s .1) in
-    let q = and-parts (ltb second r) (leb u rowLimit && (leb v rowLimit && ltb 0 (u + v))) (p .1) in
-    let o = and-parts (leb u rowLimit) (leb v rowLimit && ltb 0 (u + v)) (q .1) in
-    let w = and-parts (leb v rowLimit) (ltb 0 (u + v)) (o .1) in
-    let a = ltb-true first r (p .0) in
-    let b = ltb-true second r (q .0) in
-    let c = leb-true u rowLimit (o .0) in
-    let d = leb-true v rowLimit (w .0) in
-    (omega arith, omega arith, omega arith, omega arith, row-held n row (s .0))
+    let p = parents r first second u v (s .1) in
+    (omega (arith, p .first-earlier), omega (arith, p .second-earlier), omega (arith, p .small-u), omega (arith, p .small-v), row-held n row (s .0))
