@@ -1,5 +1,7 @@
 // Arithmetic on whole numbers: what rows, values and choosers stand on.
 // The laws are lemmas of proofs/: Integers (products, order, fractions), Divisors, Dots (sums of products), LowestForms.
+#![tactic(auto)]
+
 ghost use Rattle.std.specs.Prelude.{◌≡◌};
 ghost use Rattle.arith.specs.Gcd.{gcd_of, IsGcd};
 

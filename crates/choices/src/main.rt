@@ -1,5 +1,7 @@
 // What choosers name: reads intervals from standard input, one a line, and writes a line for each.
 // A line is SCALE LOWER UPPER; an end is NUMERATOR/DIVISOR, or - where it is absent.
+#![tactic(auto)]
+
 ghost use Rattle.intervals.specs.Meaning.{Named};
 
 mod likely;

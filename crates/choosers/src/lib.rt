@@ -1,4 +1,6 @@
 // The choosers that come with the solver. Any pile of layers over a chooser is a chooser.
+#![tactic(auto)]
+
 mod between;
 mod dyadic;
 mod edge;

@@ -1,4 +1,6 @@
 // Intervals on the line of one unknown, the fractions that lie in them, and what a chooser of such a fraction has to keep.
+#![tactic(auto)]
+
 mod admitting;
 mod building;
 mod chooser;

@@ -1,4 +1,6 @@
 // What holds of the writer and the reader together.
+#![tactic(auto)]
+
 ghost use Rattle.std.specs.Prelude.{◌≡◌, is_ok, IfOk};
 ghost use Rattle.rows.specs.Image.{image_of};
 ghost use Rattle.reader.specs.Reading.{read_of};

@@ -1,4 +1,6 @@
 // Reads an image from standard input and writes one line: that it is accepted, or why it is refused.
+#![tactic(auto)]
+
 ghost use Rattle.std.specs.Prelude.{◌≡◌, IfOk, string_bytes};
 ghost use Rattle.reader.specs.Lines.{line_of};
 ghost use Rattle.reader.specs.Reading.{read_of};

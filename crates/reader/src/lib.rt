@@ -1,4 +1,6 @@
 // Reads the image of a derivation, whatever the bytes are, and accepts it if every question is answered with yes.
+#![tactic(auto)]
+
 mod accepted;
 mod bytes;
 mod fields;

@@ -1,5 +1,7 @@
 // Rows and values of bounded whole numbers, exact: every sum and product is proved to fit 64 bits.
 // specs/ says what a row, a point, a derivation and its image are; reader and writer both cite that.
+#![tactic(auto)]
+
 mod combining;
 pub mod layout;
 mod numbers;

@@ -1,5 +1,7 @@
 // Answers every image that lines.txt names by its line, then shows the records of those that are accepted,
 // and then writes these again.
+#![tactic(auto)]
+
 mod again;
 
 use again::take_apart;

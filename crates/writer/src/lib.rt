@@ -1,4 +1,6 @@
 // Writes the image of a derivation into a buffer that the caller lends. It allocates nothing.
+#![tactic(auto)]
+
 mod blocks;
 mod fields;
 mod record;
