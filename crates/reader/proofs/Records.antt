@@ -6,7 +6,7 @@ use Rattle.rows.specs.Derivations.{Record, input, step, is_given, row_in, row_at
 use Rattle.rows.specs.Image.{record_of, kind_in, first_in, second_in, u_in, v_in, numbers_in, is_input, record_bytes}
 use Rattle.rows.specs.Rows.{is_row, combination_of, same_row}
 use Rattle.rows.proofs.Fields.{le16_lt}
-use Rattle.rows.proofs.Same.{same_back, same_self}
+use Rattle.rows.specs.SameNumbers.{same_back, same_self}
 use Rattle.rows.proofs.RecordBytes.{record_shown, shown_input, shown_step, AsInput, AsStep, input_back, step_back}
 use Rattle.rows.proofs.Standing.{parents}
 use Rattle.reader.specs.Exactness.{shown_of}

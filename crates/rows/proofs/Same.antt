@@ -4,9 +4,7 @@ use borrow.Author.Differences.{ints}
 use Rattle.std.proofs.lemmas.List.{drop_more}
 use Rattle.std.proofs.lemmas.Bool.{and_parts, true≢false}
 use Rattle.rows.specs.Rows.{same_number, same_numbers}
-
-same_yes : (x y : ℤ) → x ≡ y → same_number x y ≡ true
-same_yes x y e = grind (arith, ints)
+use Rattle.rows.specs.SameNumbers.{same_yes}
 
 same_no : (x y : ℤ) → (x ≡ y → ⊥) → same_number x y ≡ false
 same_no x y n = grind (arith, ints)
@@ -29,20 +27,3 @@ pub same_off : (xs ys : List ℤ) (i : ℕ) → i < length xs → i < length ys 
 same_off xs ys i h k n =
     same_more xs ys i h k
     ∙ ap (λ b. b && same_numbers (drop (i + 1) xs) (drop (i + 1) ys)) (same_no (get_or xs i (pos 0)) (get_or ys i (pos 0)) (λ e. n (ap (of_z w32) e)))
-
--- lists that are found the same are equal, and a list is the same as itself
-pub same_back : (xs ys : List ℤ) → same_numbers xs ys ≡ true → xs ≡ ys
-same_back [] [] h = refl
-same_back [] (y ∷ ys) h = absurd (true≢false (sym h))
-same_back (x ∷ xs) [] h = absurd (true≢false (sym h))
-same_back (x ∷ xs) (y ∷ ys) h =
-    let both = and_parts (same_number x y) (same_numbers xs ys) h in
-    let e : x ≡ y = same_number_lem x y both.0 in
-    ap (λ z. z ∷ xs) e ∙ ap (λ zs. y ∷ zs) (same_back xs ys both.1)
-  where
-    same_number_lem : (x y : ℤ) → same_number x y ≡ true → x ≡ y
-    same_number_lem x y h = grind (arith, ints)
-
-pub same_self : (xs : List ℤ) → same_numbers xs xs ≡ true
-same_self [] = refl
-same_self (x ∷ xs) = rw (same_yes x x refl) (same_self xs)

@@ -1,9 +1,8 @@
 // A row's numbers, whatever they are.
 ghost use Rattle.std.specs.Prelude.{◌≡◌};
 ghost use Rattle.rows.specs.Rows.{level_of, IsLevel, is_false, same_numbers};
-ghost use Rattle.std.specs.Cmp.Rules.{comparing};
-ghost use Rattle.std.proofs.Common.{rules};
-ghost use Rattle.std.specs.Cmp as Keys;
+ghost use Rattle.rows.specs.SameNumbers.{same_numbers_equiv};
+ghost use Rattle.std.specs.Cmp.{partial_equiv_from_equiv, on_equiv};
 
 use crate::numbers::same_numbers;
 
@@ -33,7 +32,7 @@ impl PlainRow {
 impl PartialEq for PlainRow {
     ghost eq = { λ a b. same_numbers a.numbers b.numbers };
 
-    ghost laws = { Keys.partial_equiv_from_equiv (Prim.search (comparing, rules)) };
+    ghost laws = { partial_equiv_from_equiv (on_equiv (λ row. row.numbers) same_numbers_equiv) };
 
     fn eq(&self, other: &PlainRow) -> bool {
         same_numbers(&self.numbers, &other.numbers)
@@ -41,7 +40,7 @@ impl PartialEq for PlainRow {
 }
 
 impl Eq for PlainRow {
-    ghost laws = { Prim.search (comparing, rules) };
+    ghost laws = { on_equiv (λ row. row.numbers) same_numbers_equiv };
 }
 
 // The place of the last number that is not 0, but for the first number.

@@ -10,13 +10,13 @@ use Rattle.rows.proofs.combining.combined_row.Goals as goal
 pub returns : goal.returns
 unfolding combination_of
 returns c =
-    let m : ◌≡◌ _ (row_of (combine (pos c.args.u) c.args.first.now (pos c.args.v) c.args.second.now)) = c.row-of.ensures ∙ ap row_of c.combined.ensures.is in
+    let m : ◌≡◌ _ (row_of (combine (pos c.args.u) c.args.first.now (pos c.args.v) c.args.second.now)) = c.row_of.ensures ∙ ap row_of c.combined.ensures.is in
     let hu = le-leb c.args.u (2 ^ 20) c.requires.0 in
     let hv = le-leb c.args.v (2 ^ 20) c.requires.1 in
     record {
       value = rw (hu, hv) m;
       follows =
-          found_row _ c.row-of.result _
+          found_row _ c.row_of.result _
           (λ zs. (point : List ℤ) → Satisfies point c.args.first.now → Satisfies point c.args.second.now → Satisfies point zs) m
           (lowest_follows c.args.u c.args.first.now c.args.v c.args.second.now (omega arith));
     }

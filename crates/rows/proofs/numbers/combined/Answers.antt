@@ -19,7 +19,7 @@ loop-k-preserved c =
     let y = get_or c.args.second.now c.loop-k.k (pos 0) in
     let fx : SFits w32 (get_or c.args.first.now c.loop-k.k (pos 0)) = search rules in
     let fy : SFits w32 (get_or c.args.second.now c.loop-k.k (pos 0)) = search rules in
-    let fm : SFits w64 c.mixed.result = record { sfits = c.mixed.type-inv } in
+    let fm : SFits w64 c.mixed.result = record { sfits = c.mixed.type_inv } in
     let e : c.mixed.result ≡ pos c.args.u *ℤ x +ℤ pos c.args.v *ℤ y = simp to_z-of_z at c.mixed.ensures in
     let m : nat_abs c.mixed.result ≤ 2 ^ 53 = rw e (mixed_within c.args.u x c.args.v y c.requires.0 fx c.requires.1 fy) in (
       length-set _ _ _ ∙ c.loop-k.invariant.0,

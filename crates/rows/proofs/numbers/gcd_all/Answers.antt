@@ -11,7 +11,7 @@ unfolding gcd_from
 loop-x-preserved c =
     let l : c.loop-x.x-index < length c.args.numbers.now = search rules in
     let f : SFits w64 (get_or c.args.numbers.now c.loop-x.x-index (pos 0)) = search rules in
-    let u : c.unsigned-abs.result ≡ nat_abs (get_or c.args.numbers.now c.loop-x.x-index (pos 0)) = simp to_z-of_z at c.unsigned-abs.ensures.value in
+    let u : c.unsigned_abs.result ≡ nat_abs (get_or c.args.numbers.now c.loop-x.x-index (pos 0)) = simp to_z-of_z at c.unsigned_abs.ensures.value in
     let g : c.gcd-g.result ≡ gcd_of c.loop-x.g (nat_abs (get_or c.args.numbers.now c.loop-x.x-index (pos 0))) = c.gcd-g.ensures.value ∙ ap (gcd_of c.loop-x.g) u in
     let d = drop_more c.args.numbers.now c.loop-x.x-index (pos 0) l in
     ap (λ n. gcd_from n (drop (c.loop-x.x-index + 1) c.args.numbers.now)) g ∙ sym (ap (gcd_from c.loop-x.g) d) ∙ c.loop-x.invariant

@@ -14,8 +14,8 @@ loop-k-init c = (refl, omega arith)
 turn : (c : goal.After-product-sum) → (c.product-sum.result ≡ get_or c.args.row.now c.loop-k.k (pos 0) *ℤ get_or c.args.point.now c.loop-k.k (pos 0)) × (nat_abs c.product-sum.result ≤ 2 ^ 38)
 turn c = read_product (get_or c.args.row.now c.loop-k.k (pos 0)) (get_or c.args.point.now c.loop-k.k (pos 0)) _ (c.requires.0 c.loop-k.k) (c.requires.1 c.loop-k.k) c.product-sum.ensures
 
-pub overflow-add-sum : goal.overflow-add-sum
-overflow-add-sum c = (added c.product-sum.result c.loop-k.k c.loop-k.sum-is c.loop-k.invariant.1 c.loop-k-test.true (turn c).1).fits
+pub overflow_add-sum : goal.overflow_add-sum
+overflow_add-sum c = (added c.product-sum.result c.loop-k.k c.loop-k.sum-is c.loop-k.invariant.1 c.loop-k-test.true (turn c).1).fits
 
 pub loop-k-preserved : goal.loop-k-preserved
 loop-k-preserved c =

@@ -6,18 +6,18 @@ use Rattle.arith.specs.Lowest.{within_all}
 use Rattle.arith.proofs.LowestForms.{within_more, within_stop}
 use Rattle.rows.proofs.numbers.within.Goals as goal
 
-pub returns-then-unsigned-abs-limit : goal.returns-then-unsigned-abs-limit
-returns-then-unsigned-abs-limit c =
+pub returns-then-unsigned_abs-limit : goal.returns-then-unsigned_abs-limit
+returns-then-unsigned_abs-limit c =
     let l : c.loop-x.x-index < length c.args.numbers.now = search rules in
     let f : SFits w64 (get_or c.args.numbers.now c.loop-x.x-index (pos 0)) = search rules in
-    let u : c.unsigned-abs.result ≡ nat_abs (get_or c.args.numbers.now c.loop-x.x-index (pos 0)) = simp to_z-of_z at c.unsigned-abs.ensures.value in
+    let u : c.unsigned_abs.result ≡ nat_abs (get_or c.args.numbers.now c.loop-x.x-index (pos 0)) = simp to_z-of_z at c.unsigned_abs.ensures.value in
     sym (within_stop c.args.limit c.args.numbers.now c.loop-x.x-index l (omega arith)) ∙ c.loop-x.invariant
 
 pub loop-x-preserved : goal.loop-x-preserved
 loop-x-preserved c =
     let l : c.loop-x.x-index < length c.args.numbers.now = search rules in
     let f : SFits w64 (get_or c.args.numbers.now c.loop-x.x-index (pos 0)) = search rules in
-    let u : c.unsigned-abs.result ≡ nat_abs (get_or c.args.numbers.now c.loop-x.x-index (pos 0)) = simp to_z-of_z at c.unsigned-abs.ensures.value in
+    let u : c.unsigned_abs.result ≡ nat_abs (get_or c.args.numbers.now c.loop-x.x-index (pos 0)) = simp to_z-of_z at c.unsigned_abs.ensures.value in
     within_more c.args.limit c.args.numbers.now c.loop-x.x-index l (omega arith) ∙ c.loop-x.invariant
 
 pub returns : goal.returns

@@ -10,7 +10,7 @@ pub returns-then-within : goal.returns-then-within
 unfolding as_row
 returns-then-within c =
     let t : within_all (2 ^ 20) c.args.numbers.now ≡ true = ap (within_all (2 ^ 20)) (sym c.widened-wide.ensures) ∙ sym c.if-within.ensures in
-    let g : gcd_all c.args.numbers.now ≡ c.gcd-all.result = ap gcd_all (sym c.widened-wide.ensures) ∙ sym c.gcd-all.ensures in
+    let g : gcd_all c.args.numbers.now ≡ c.gcd_all.result = ap gcd_all (sym c.widened-wide.ensures) ∙ sym c.gcd_all.ensures in
     record { limits = λ h. within_is (2 ^ 20) c.args.numbers.now t; lowest = λ h. rw g (leb-true _ 1 h); judges = rw (t, g) }
 
 pub returns-else-within : goal.returns-else-within

@@ -5,8 +5,8 @@ use Rattle.rows.specs.Bytes.{seal_of}
 use Rattle.rows.proofs.Weights.{weigh_more, weight_le}
 use Rattle.rows.proofs.sealing.weighed.Goals as goal
 
-pub overflow-add-sum-in-loop-i : goal.overflow-add-sum-in-loop-i
-overflow-add-sum-in-loop-i c =
+pub overflow_add-sum-in-loop-i : goal.overflow_add-sum-in-loop-i
+overflow_add-sum-in-loop-i c =
     let w = weight_le c.loop-i.i (get_or c.args.body.now c.loop-i.i 0) (omega arith) (search rules) in
     omega arith
 
