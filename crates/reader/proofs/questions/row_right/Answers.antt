@@ -9,7 +9,7 @@ use Rattle.reader.proofs.questions.row_right.Goals as goal
 pub returns-in-Some : goal.returns-in-Some
 returns-in-Some c =
     ap (λ k. leb k c.args.n) c.level.ensures.value
-    ∙ row_of_level c.args.n (numbers_in c.args.rec.now) _ (length_numbers c.args.rec.now) (c.in-Some.ensures ∙ ap as_row c.row-in.ensures)
+    ∙ row_of_level c.args.n (numbers_in c.args.rec.now) _ (length_numbers c.args.rec.now) (c.in-Some.ensures ∙ ap as_row c.row_in.ensures)
 
 pub returns-in-None : goal.returns-in-None
-returns-in-None c = no_row c.args.n (numbers_in c.args.rec.now) (c.in-None.ensures ∙ ap as_row c.row-in.ensures)
+returns-in-None c = no_row c.args.n (numbers_in c.args.rec.now) (c.in-None.ensures ∙ ap as_row c.row_in.ensures)

@@ -8,15 +8,15 @@ use Rattle.reader.specs.declared.refusal.Refusal.{Refusal}
 use Rattle.rows.proofs.Asking.{then_yes, then_no}
 use Rattle.reader.proofs.reading.ask_block.Goals as goal
 
-pub returns-in-err-ask-frame : goal.returns-in-err-ask-frame
+pub returns-in_err-ask_frame : goal.returns-in_err-ask_frame
 unfolding block_asked
-returns-in-err-ask-frame c =
-    let p = err_from_is_err_and c.from-residual.result c.from-residual.ensures.1 in
-    rw (p.1, p.2) (sym (then_no _ (for_each (λ k. record_asked c.args.bytes.now c.args.n (8 * c.args.b + k)) (count_in c.args.t c.args.b)) _ (sym c.in-err-ask-frame.ensures)))
+returns-in_err-ask_frame c =
+    let p = err_from_is_err_and c.from_residual.result c.from_residual.ensures.1 in
+    rw (p.1, p.2) (sym (then_no _ (for_each (λ k. record_asked c.args.bytes.now c.args.n (8 * c.args.b + k)) (count_in c.args.t c.args.b)) _ (sym c.in_err-ask_frame.ensures)))
 
 pub returns : goal.returns
 unfolding block_asked
 returns c =
     let p : ℕ → Result (Unit {0}) Refusal = λ k. record_asked c.args.bytes.now c.args.n (8 * c.args.b + k) in
-    c.ask-records.ensures
-    ∙ (ap (for_each p) c.count-in.ensures.is ∙ sym (then_yes (frame_asked c.args.bytes.now c.args.t c.args.b) _ (sym c.in-ok-ask-frame.ensures)))
+    c.ask_records.ensures
+    ∙ (ap (for_each p) c.count_in.ensures.is ∙ sym (then_yes (frame_asked c.args.bytes.now c.args.t c.args.b) _ (sym c.in_ok-ask_frame.ensures)))

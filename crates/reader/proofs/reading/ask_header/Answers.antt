@@ -8,5 +8,5 @@ use Rattle.reader.proofs.reading.ask_header.Goals as goal
 
 pub returns : goal.returns
 returns c =
-    let right = c.header-right.ensures ∙ ap (λ block. header_right block (length c.args.bytes.now)) c.block-of-block.ensures.whole in
+    let right = c.header_right.ensures ∙ ap (λ block. header_right block (length c.args.bytes.now)) c.block_of-block.ensures.whole in
     record { is = search rules; sized = asked_sized c.args.bytes.now Header _ (c.ask-3.ensures ∙ ap (λ yes'. asked yes' Header) right) }

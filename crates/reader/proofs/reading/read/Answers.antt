@@ -6,12 +6,12 @@ use Rattle.reader.specs.Shown.{reading_in, viewed}
 use Rattle.reader.proofs.Exact.{exactly}
 use Rattle.reader.proofs.reading.read.Goals as goal
 
-pub returns-in-err-ask-image : goal.returns-in-err-ask-image
-returns-in-err-ask-image c =
-    let is : viewed c.from-residual.result ≡ read_of c.args.bytes.now = search rules in
-    record { is = is; exactly = exactly c.args.bytes.now c.type-inv.bytes (viewed c.from-residual.result) is; one_image_each = one_image_each }
+pub returns-in_err-ask_image : goal.returns-in_err-ask_image
+returns-in_err-ask_image c =
+    let is : viewed c.from_residual.result ≡ read_of c.args.bytes.now = search rules in
+    record { is = is; exactly = exactly c.args.bytes.now c.type_inv.bytes (viewed c.from_residual.result) is; one_image_each = one_image_each }
 
 pub returns : goal.returns
 returns c =
     let is : Ok (reading_in c.accepted.result) ≡ read_of c.args.bytes.now = search rules in
-    record { is = is; exactly = exactly c.args.bytes.now c.type-inv.bytes (Ok (reading_in c.accepted.result)) is; one_image_each = one_image_each }
+    record { is = is; exactly = exactly c.args.bytes.now c.type_inv.bytes (Ok (reading_in c.accepted.result)) is; one_image_each = one_image_each }
