@@ -25,6 +25,6 @@ sealed_is block zeros last end k seal l h z m s n w =
 pub returns : goal.returns
 returns c =
     let l : length (take (508 - c.args.end) (drop c.args.end c.args.block.now)) ≡ 508 - c.args.end = simp (length-take, length-drop) (omega arith) in
-    sealed_is c.args.block.now c.fill.new.self c.put-u32.new.bytes c.args.end (508 - c.args.end) c.seal-seal.result c.requires.0 c.requires.1
+    sealed_is c.args.block.now c.fill.new.self c.put_u32.new.bytes c.args.end (508 - c.args.end) c.seal-seal.result c.requires.0 c.requires.1
     (c.fill.ensures.after (λ y e. e) ∙ ap zero_bytes l)
-    (omega arith) c.seal-seal.ensures (omega arith) c.put-u32.ensures
+    (omega arith) c.seal-seal.ensures (omega arith) c.put_u32.ensures

@@ -39,17 +39,17 @@ bounds-records-first-in-loop-c c = omega (arith, pairs_length c.args.records.now
 pub loop-c-preserved : goal.loop-c-preserved
 loop-c-preserved c =
     let records : List Record = records_with c.args.records.now.origins.now c.args.records.now.rows.now in
-    let rec : List ℕ = c.write-record.new.rec in
+    let rec : List ℕ = c.write_record.new.rec in
     let i : ℕ = c.loop-c.c in
     let l : length rec ≡ 60 = search rules in
-    front_on record_bytes (take 8 c.begin-block.new.block) c.loop-c.block _ rec (drop (8 * c.args.b) records) i (8 + 60 * i) (8 + 60 * (i + 1)) (input 0 [])
+    front_on record_bytes (take 8 c.begin_block.new.block) c.loop-c.block _ rec (drop (8 * c.args.b) records) i (8 + 60 * i) (8 + 60 * (i + 1)) (input 0 [])
     (simp length-drop (omega arith))
-    (c.write-record.ensures ∙ ap record_bytes (pair_from _ _ (input 0 []) c.args.records.now.origins.now c.args.records.now.rows.now (8 * c.args.b) i (omega arith)))
+    (c.write_record.ensures ∙ ap record_bytes (pair_from _ _ (input 0 []) c.args.records.now.origins.now c.args.records.now.rows.now (8 * c.args.b) i (omega arith)))
     c.loop-c.invariant (copied c.loop-c.block rec rec (8 + 60 * i) (8 + 60 * i + 60) refl (omega arith)) (omega arith) (omega arith)
 
 pub returns : goal.returns
 returns c =
     let records : List Record = records_with c.args.records.now.origins.now c.args.records.now.rows.now in
-    let e : c.loop-c.c ≡ c.count-in-count.result = omega arith in
-    whole records c.begin-block.new.block c.loop-c.block c.seal-block.new.block c.args.b c.count-in-count.result
-    (omega arith) (omega arith) (omega arith) c.begin-block.ensures (rw e at c.loop-c.invariant) c.seal-block.ensures
+    let e : c.loop-c.c ≡ c.count_in-count.result = omega arith in
+    whole records c.begin_block.new.block c.loop-c.block c.seal_block.new.block c.args.b c.count_in-count.result
+    (omega arith) (omega arith) (omega arith) c.begin_block.ensures (rw e at c.loop-c.invariant) c.seal_block.ensures

@@ -7,5 +7,5 @@ use Rattle.writer.proofs.fields.put_i32.Goals as goal
 
 pub returns : goal.returns
 returns c =
-    copied c.args.bytes.now c.copy-from-slice.new.self (bytes_i32 c.args.n) c.args.at _
-    (c.copy-from-slice.ensures.after ∙ (c.to-le-bytes.ensures ∙ ap bytes_i32 (to_z-of_z w32 c.args.n c.ranges.n))) refl
+    copied c.args.bytes.now c.copy_from_slice.new.self (bytes_i32 c.args.n) c.args.at _
+    (c.copy_from_slice.ensures.after ∙ (c.to_le_bytes.ensures ∙ ap bytes_i32 (to_z-of_z w32 c.args.n c.ranges.n))) refl

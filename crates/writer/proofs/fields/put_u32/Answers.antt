@@ -6,5 +6,5 @@ use Rattle.writer.proofs.fields.put_u32.Goals as goal
 
 pub returns : goal.returns
 returns c =
-    copied c.args.bytes.now c.copy-from-slice.new.self (bytes32 c.args.n) c.args.at _
-    (c.copy-from-slice.ensures.after ∙ c.to-le-bytes.ensures) refl
+    copied c.args.bytes.now c.copy_from_slice.new.self (bytes32 c.args.n) c.args.at _
+    (c.copy_from_slice.ensures.after ∙ c.to_le_bytes.ensures) refl

@@ -24,10 +24,10 @@ parts rec origin row zeros l o r z =
 
 pub returns : goal.returns
 returns c =
-    let l : length c.write-row.new.bytes ≡ 36 = search rules in
-    let o : length c.write-origin.new.bytes ≡ 16 = search rules in
+    let l : length c.write_row.new.bytes ≡ 36 = search rules in
+    let o : length c.write_origin.new.bytes ≡ 16 = search rules in
     let n : length c.fill.new.self ≡ 8 = search rules in
     let z : c.fill.new.self ≡ zero_bytes 8 = c.fill.ensures.after (λ y e. e) ∙ ap zero_bytes (sym c.fill.ensures.len ∙ n) in
-    parts c.args.rec.now c.write-origin.new.bytes c.write-row.new.bytes c.fill.new.self c.requires o l n
-    ∙ (ap (λ zeros. c.write-origin.new.bytes ++ (c.write-row.new.bytes ++ zeros)) z
-    ∙ (ap (λ row. c.write-origin.new.bytes ++ (row ++ zero_bytes 8)) c.write-row.ensures ∙ sym (c.write-origin.ensures c.args.row.now)))
+    parts c.args.rec.now c.write_origin.new.bytes c.write_row.new.bytes c.fill.new.self c.requires o l n
+    ∙ (ap (λ zeros. c.write_origin.new.bytes ++ (c.write_row.new.bytes ++ zeros)) z
+    ∙ (ap (λ row. c.write_origin.new.bytes ++ (row ++ zero_bytes 8)) c.write_row.ensures ∙ sym (c.write_origin.ensures c.args.row.now)))

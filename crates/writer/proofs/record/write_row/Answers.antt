@@ -38,13 +38,13 @@ pub loop-k-preserved : goal.loop-k-preserved
 loop-k-preserved c =
     let l : length c.args.row.now.numbers ≡ 9 = search rules in
     let f : SFits w32 (get_or c.args.row.now.numbers c.loop-k.k (pos 0)) = search rules in
-    more c.args.row.now.numbers c.loop-k.bytes c.put-i32.new.bytes c.loop-k.k l (omega arith) (omega arith) (omega arith)
-    c.loop-k.invariant (rw to_z-of_z at c.put-i32.ensures)
+    more c.args.row.now.numbers c.loop-k.bytes c.put_i32.new.bytes c.loop-k.k l (omega arith) (omega arith) (omega arith)
+    c.loop-k.invariant (rw to_z-of_z at c.put_i32.ensures)
 
 pub returns : goal.returns
 returns c =
     let l : length c.args.row.now.numbers ≡ 9 = search rules in
     let f : SFits w32 (get_or c.args.row.now.numbers 0 (pos 0)) = search rules in
     let e : c.loop-k.k ≡ 9 = omega arith in
-    whole c.args.row.now.numbers c.loop-k.bytes c.put-i32-2.new.bytes l (omega arith) (omega arith)
-    (rw e at c.loop-k.invariant) (rw to_z-of_z at c.put-i32-2.ensures)
+    whole c.args.row.now.numbers c.loop-k.bytes c.put_i32-2.new.bytes l (omega arith) (omega arith)
+    (rw e at c.loop-k.invariant) (rw to_z-of_z at c.put_i32-2.ensures)

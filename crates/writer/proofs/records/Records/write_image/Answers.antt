@@ -25,30 +25,30 @@ whole d header was last t b l h e k p q =
     let front : take (image_size t) last ≡ header_bytes d.unknowns t ++ flat_map (records_block d.records) (range_with_len 0 (blocks_for t)) = rw (s, a, h, j) at p in
     (sym (take-append-drop (image_size t) last) ∙ rw (front, q, g, e), rw e at front)
 
-pub slice-bounds-write-header-end-2 : goal.slice-bounds-write-header-end-2
-slice-bounds-write-header-end-2 c = simp length-take (omega arith)
+pub slice_bounds-write_header-end-2 : goal.slice_bounds-write_header-end-2
+slice_bounds-write_header-end-2 c = simp length-take (omega arith)
 
-pub write-header-requires : goal.write-header-requires
-write-header-requires c = simp length-take (omega arith, (omega arith, omega arith))
+pub write_header-requires : goal.write_header-requires
+write_header-requires c = simp length-take (omega arith, (omega arith, omega arith))
 
 pub loop-b-preserved : goal.loop-b-preserved
 loop-b-preserved c =
     let records : List Record = records_with c.args.self.now.origins.now c.args.self.now.rows.now in
-    let block : List ℕ = c.write-block.new.block in
+    let block : List ℕ = c.write_block.new.block in
     let b : ℕ = c.loop-b.b in
     let at : ℕ = 512 * (b + 1) in
     let n : ℕ = blocks_for c.count-t.result in
     let l : length block ≡ 512 = search rules in (
       front_on (records_block records) _ c.loop-b.buffer _ block (range_with_len 0 n) b at (512 * (b + 1 + 1)) 0 (omega (arith, length-range_with_len 0 n))
-          (c.write-block.ensures ∙ ap (records_block records) (sym (get_or-range_with_len 0 n b 0 (omega arith) ∙ zero-add b)))
+          (c.write_block.ensures ∙ ap (records_block records) (sym (get_or-range_with_len 0 n b 0 (omega arith) ∙ zero-add b)))
           c.loop-b.invariant.0 (copied c.loop-b.buffer block block at (at + 512) refl (omega arith)) (omega arith) (omega arith),
       drop-put_mid at (at + 512 - at) c.loop-b.buffer block (image_size c.count-t.result) (omega arith) (omega arith) (omega arith) ∙ c.loop-b.invariant.1,
     )
 
 pub returns : goal.returns
 returns c =
-    let l : length c.write-header.new.block ≡ 512 = omega (arith, length-take 512 c.args.buffer.now) in
+    let l : length c.write_header.new.block ≡ 512 = omega (arith, length-take 512 c.args.buffer.now) in
     let both =
-    whole (derivation_of c.args.self.now) c.write-header.new.block c.args.buffer.now c.loop-b.buffer c.count-t.result c.loop-b.b
-    l c.write-header.ensures c.count-t.ensures (omega arith) c.loop-b.invariant.0 c.loop-b.invariant.1 in
+    whole (derivation_of c.args.self.now) c.write_header.new.block c.args.buffer.now c.loop-b.buffer c.count-t.result c.loop-b.b
+    l c.write_header.ensures c.count-t.ensures (omega arith) c.loop-b.invariant.0 c.loop-b.invariant.1 in
     record { whole = both.0; front = both.1 }
