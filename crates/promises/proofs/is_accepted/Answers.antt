@@ -16,6 +16,6 @@ ok_viewed (Err refusal) = refl
 pub returns : goal.returns
 returns c =
     let d = derivation_of c.args.records.now in
-    let is : c.is-ok.result ≡ is_ok (read_of (image_of (derivation_of c.args.records.now))) =
-    c.is-ok.ensures.value ∙ (ok_viewed c.read.result ∙ (ap is_ok c.read.ensures.is ∙ ap (λ bytes. is_ok (read_of bytes)) c.requires)) in
+    let is : c.is_ok.result ≡ is_ok (read_of (image_of (derivation_of c.args.records.now))) =
+    c.is_ok.ensures.value ∙ (ok_viewed c.read.result ∙ (ap is_ok c.read.ensures.is ∙ ap (λ bytes. is_ok (read_of bytes)) c.requires)) in
     record { is = is; comes_back = λ h. let back = reads_back d h in (is ∙ ap is_ok back.1, back) }
