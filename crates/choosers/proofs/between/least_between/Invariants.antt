@@ -3,4 +3,4 @@ use Rattle.choosers.specs.Turns.{Walking}
 use Rattle.choosers.proofs.between.least_between.Given as goal
 
 abbrev pub invariant-loop-turn : goal.invariant-loop-turn
-invariant-loop-turn l = Walking l.initial.near l.initial.far l.near l.far l.last l.before l.-turn
+invariant-loop-turn l = Walking l.initial.near l.initial.far l.near l.far l.last l.before l._turn

@@ -6,8 +6,8 @@ use Rattle.choosers.specs.Edge.{lowest_terms, end_named}
 use Rattle.choosers.specs.Nearest.{if_short}
 use Rattle.choosers.proofs.edge.end_named.Goals as goal
 
-pub short-of-requires : goal.short-of-requires
-short-of-requires c =
+pub short_of-requires : goal.short_of-requires
+short_of-requires c =
     let s = scale_limits c.args.scale c.requires.0 in
     let e = end_limits c.in-Some.end (c.requires.1 c.in-Some.end c.in-Some.is) in
     (mul-pos e.some s.0, under_small c.in-Some.end.divisor c.args.scale e.divisor s.1)
@@ -16,7 +16,7 @@ pub returns-in-Some : goal.returns-in-Some
 unfolding end_named
 returns-in-Some c =
     let f : SFits w64 c.in-Some.end.numerator = search rules in
-    c.short-of.ensures
+    c.short_of.ensures
     ∙ ap (λ n. if_short (lowest_terms n (c.in-Some.end.divisor * c.args.scale))) (to_z-of_z w64 c.in-Some.end.numerator f)
     ∙ sym (ap (end_named c.args.scale) c.in-Some.is)
 

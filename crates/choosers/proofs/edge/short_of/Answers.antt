@@ -43,20 +43,20 @@ divisor {n} {m} {g} f h k e i d =
     }
 
 of_gcd : (c : goal.After-gcd-g) → Divisor c.args.numerator c.args.denominator c.gcd-g.result
-of_gcd c = divisor c.ranges.numerator c.requires.0 c.requires.1 c.unsigned-abs.ensures.value c.gcd-g.ensures.value c.gcd-g.ensures.greatest
+of_gcd c = divisor c.ranges.numerator c.requires.0 c.requires.1 c.unsigned_abs.ensures.value c.gcd-g.ensures.value c.gcd-g.ensures.greatest
 
-pub overflow-cast-g : goal.overflow-cast-g
-overflow-cast-g c = let d = of_gcd c in omega (arith, ints, d.small)
+pub overflow_cast-g : goal.overflow_cast-g
+overflow_cast-g c = let d = of_gcd c in omega (arith, ints, d.small)
 
-pub nonzero-div-numerator : goal.nonzero-div-numerator
-nonzero-div-numerator c = let d = of_gcd c in (d.some, d.fits)
+pub nonzero_div-numerator : goal.nonzero_div-numerator
+nonzero_div-numerator c = let d = of_gcd c in (d.some, d.fits)
 
-pub if-short-requires : goal.if-short-requires
-if-short-requires c = let d = of_gcd c in (d.under, rw d.quotient d.lowest)
+pub if_short-requires : goal.if_short-requires
+if_short-requires c = let d = of_gcd c in (d.under, rw d.quotient d.lowest)
 
 pub returns : goal.returns
 returns c =
-    let d = divisor c.ranges.numerator c.requires.0 c.requires.1 c.unsigned-abs.ensures.value c.gcd-g.ensures.value c.gcd-g.ensures.greatest in
-    c.if-short.ensures
+    let d = divisor c.ranges.numerator c.requires.0 c.requires.1 c.unsigned_abs.ensures.value c.gcd-g.ensures.value c.gcd-g.ensures.greatest in
+    c.if_short.ensures
     ∙ ap (λ z. if_short (over z (c.args.denominator / c.gcd-g.result))) d.quotient
     ∙ ap (λ g. if_short (over (quot_z c.args.numerator (pos g)) (c.args.denominator / g))) d.is

@@ -4,5 +4,5 @@ use Rattle.choosers.proofs.ratio.Ratio.rounded_up.Goals as goal
 
 pub returns : goal.returns
 returns c =
-    let r = rounded_up c.args.self.over c.args.self.under c.div-ceil.result c.requires c.div-ceil.ensures in
+    let r = rounded_up c.args.self.over c.args.self.under c.div_ceil.result c.requires c.div_ceil.ensures in
     record { enough = r.0; least = r.1 }
