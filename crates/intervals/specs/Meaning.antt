@@ -1,5 +1,5 @@
 -- What a chooser may name at an interval.
-use Rattle.std.specs.Prelude.{◌≡◌, ℕ, ◌*◌, Bool, true, ◌&&◌, ℤ, pos, ◌*ℤ◌, Some, None, Option, ◌==◌, ◌≢◌, int_le, nat_le, unsigned_abs}
+use Rattle.std.specs.Prelude.{◌≡◌, ℕ, ◌*◌, Bool, true, ◌&&◌, pos, ◌*ℤ◌, Some, None, Option, ◌==◌, ◌≢◌, int_le, nat_le, unsigned_abs}
 use Rattle.std.specs.Option.{option_or}
 use Rattle.arith.specs.Gcd.{gcd_of}
 use Rattle.rows.specs.Rows.{value_limit}

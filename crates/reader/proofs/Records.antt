@@ -1,8 +1,8 @@
 -- What the answers about a record say of the record that its bytes show.
-use Rattle.std.proofs.Common.{◌≡◌, ℕ, ◌-◌, ◌<◌, Bool, true, false, cond, ◌&&◌, ◌||◌, eqb, List, length, ℤ, Some, None, Ok, Option, Result, sym, refl, ap, ◌∙◌, subst, arith}
+use Rattle.std.proofs.Common.{◌≡◌, ℕ, ◌<◌, Bool, true, false, cond, ◌&&◌, ◌||◌, eqb, List, length, ℤ, Some, None, Ok, Option, Result, sym, refl, ap, ◌∙◌, subst, arith}
 use Rattle.std.proofs.lemmas.Bool.{eqb-true, eq-eqb, and_parts, or_left, or_right, true≢false}
 use Rattle.rows.specs.Bytes.{AllBytes, zeros_in}
-use Rattle.rows.specs.Derivations.{Record, input, step, is_given, row_in, row_at, are_parents, Stands}
+use Rattle.rows.specs.Derivations.{Record, is_given, row_in, row_at, are_parents, Stands}
 use Rattle.rows.specs.Image.{record_of, kind_in, first_in, second_in, u_in, v_in, numbers_in, is_input, record_bytes}
 use Rattle.rows.specs.Rows.{is_row, combination_of, same_row}
 use Rattle.rows.proofs.Fields.{le16_lt}

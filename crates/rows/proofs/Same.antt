@@ -1,8 +1,7 @@
 -- Whether two lists of numbers are the same, place by place.
-use Rattle.std.proofs.Common.{◌≡◌, ℕ, ◌+◌, ◌<◌, true, false, ◌&&◌, List, [], ◌∷◌, length, get_or, drop, ℤ, pos, sym, refl, ap, ◌∙◌, arith, w32, SFits, of_z}
+use Rattle.std.proofs.Common.{◌≡◌, ℕ, ◌+◌, ◌<◌, false, ◌&&◌, List, length, get_or, drop, ℤ, pos, ap, ◌∙◌, arith, w32, SFits, of_z}
 use borrow.Author.Differences.{ints}
 use Rattle.std.proofs.lemmas.List.{drop_more}
-use Rattle.std.proofs.lemmas.Bool.{and_parts, true≢false}
 use Rattle.rows.specs.Rows.{same_number, same_numbers}
 use Rattle.rows.specs.SameNumbers.{same_yes}
 

@@ -1,5 +1,5 @@
 -- 0 is named where it lies in the interval; a power that serves decides, and one that does not leaves it to the next.
-use Rattle.std.proofs.Common.{◌*◌, refl, ap, ◌∙◌, pow-suc, add-one, arith}
+use Rattle.std.proofs.Common.{◌*◌, ap, ◌∙◌, pow-suc, add-one, arith}
 use Rattle.choosers.specs.SpanLaw.{seen_some, seen_none}
 use Rattle.choosers.specs.DyadicLaw.{zero_first, power_is, turn_named, turn_on, none_left, names_dyadic}
 use Rattle.choosers.proofs.dyadic.dyadic_in.Goals as goal
