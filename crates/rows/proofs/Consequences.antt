@@ -3,7 +3,7 @@ use Rattle.std.proofs.Common.{◌≡◌, ℕ, zero, suc, ◌-◌, ◌<◌, Bool,
 use borrow.Author.Differences.{ints}
 use lib.IntN.{*ℤ_comm, +ℤ_idr}
 use lib.Signed.{lt_z}
-use Rattle.std.specs.List.{AllByRecursion as All}
+use Rattle.std.specs.List.{AllByRecursion}
 use Rattle.std.proofs.lemmas.Bool.{and_parts, eqb-true}
 use Rattle.arith.specs.Dot.{dot, combine}
 use Rattle.arith.specs.Lowest.{lowest_of}
@@ -52,14 +52,14 @@ false_unsatisfied (b ∷ xs) (d ∷ numerators) f h s =
         omega (arith, ints)
 
 -- a record that was given is among those that were given
-given_at : (P : List ℤ → Type 0) (records : List Record) (r : ℕ) → r < length records → All P (map row_in (inputs_of records)) → is_given (get_or records r (input 0 [])) ≡ true → P (row_at records r)
+given_at : (P : List ℤ → Type 0) (records : List Record) (r : ℕ) → r < length records → AllByRecursion P (map row_in (inputs_of records)) → is_given (get_or records r (input 0 [])) ≡ true → P (row_at records r)
 given_at P [] r l a g = absurd (omega arith)
 given_at P (input tag row ∷ records) zero l a g = a.0
 given_at P (step first second u v row ∷ records) zero l a g = absurd (grind arith)
 given_at P (input tag row ∷ records) (suc r) l a g = given_at P records r (omega arith) a.1 g
 given_at P (step first second u v row ∷ records) (suc r) l a g = given_at P records r (omega arith) a g
 
-module _ (d : Derivation) (h : IsDerivation d) (point : List ℤ) (a : All (Satisfies point) (map row_in (inputs_of d.records))) where
+module _ (d : Derivation) (h : IsDerivation d) (point : List ℤ) (a : AllByRecursion (Satisfies point) (map row_in (inputs_of d.records))) where
   -- by recursion on a bound above r: the parents of a step stand before r
   each_satisfied : (n r : ℕ) → r < n → r < length d.records → Satisfies point (row_at d.records r)
   each_satisfied zero r b l = absurd (omega arith)

@@ -1,6 +1,6 @@
 -- Where a derivation's blocks and records stand in its image, and what bytes of that length consist of.
 use Rattle.std.proofs.Common.{◌≡◌, ℕ, ◌+◌, ◌-◌, ◌*◌, ◌/◌, ◌%◌, ◌<◌, ◌≤◌, List, [], ◌++◌, map, length, get_or, take, drop, sym, refl, ap, ◌∙◌, zero-add, arith}
-use Rattle.std.specs.List.{range_with_len, flat_map, AllByRecursion as All}
+use Rattle.std.specs.List.{range_with_len, flat_map, AllByRecursion}
 use Rattle.std.proofs.lemmas.List.FromFn.{length-range_with_len, get_or-range_with_len, fill_by_all}
 use Rattle.std.proofs.ByRecursion.{All-append, All-drop, All-from_get_or, All-take, All-weaker}
 use Rattle.std.proofs.lemmas.List.{drop_at, drop-drop, drop-take, get_or-drop, get_or-take, length-append, length-drop, length-take, take_all, take-append-drop, take_at, take-take}
@@ -21,7 +21,7 @@ derivation_shown bytes = record {
 
 -- rows of nine numbers, so that each record has its 60 bytes
 abbrev pub Nine : List Record → Type 0
-Nine records = All (λ rec. length (row_in rec) ≡ 9) records
+Nine records = AllByRecursion (λ rec. length (row_in rec) ≡ 9) records
 
 pub held_at : (d : Derivation) → IsDerivation d → (r : ℕ) → r < length d.records → Held (get_or d.records r (input 0 []))
 held_at d h r l = stands_held d.unknowns d.records r (get_or d.records r (input 0 [])) (omega (arith, h.some_records)) (h.each_stands r l)
@@ -36,7 +36,7 @@ derivation_nine d h =
 abbrev eight : List Record → ℕ → List Record
 eight records b = take 8 (drop (8 * b) records)
 
-all_sixty : (records : List Record) (b : ℕ) → Nine records → All (λ rec. length (record_bytes rec) ≡ 60) (eight records b)
+all_sixty : (records : List Record) (b : ℕ) → Nine records → AllByRecursion (λ rec. length (record_bytes rec) ≡ 60) (eight records b)
 all_sixty records b h = All-weaker _ _ length_record (eight records b) (All-take _ 8 (drop (8 * b) records) (All-drop _ (8 * b) records h))
 
 length-eight : (records : List Record) (b : ℕ) → length (eight records b) ≡ count_in (length records) b
@@ -61,7 +61,7 @@ length_records records b h =
     let l = length_held records b h in
     length_block (b + 1) (count_in (length records) b) (flat_map record_bytes (eight records b)) (omega arith)
 
-all_blocks : (records : List Record) (bs : List ℕ) → Nine records → All (λ b. length (records_block records b) ≡ 512) bs
+all_blocks : (records : List Record) (bs : List ℕ) → Nine records → AllByRecursion (λ b. length (records_block records b) ≡ 512) bs
 all_blocks records bs h = All-from_get_or (λ b. length (records_block records b) ≡ 512) bs 0 (λ i l. length_records records (get_or bs i 0) h)
 
 pub length_image : (d : Derivation) → Nine d.records → length (image_of d) ≡ image_size (length d.records)

@@ -1,7 +1,7 @@
 -- A record and its 60 bytes: each shows the other.
 use Rattle.std.proofs.Common.{◌≡◌, ℕ, zero, suc, ◌+◌, ◌*◌, ◌^◌, ◌<◌, ◌≤◌, true, false, cond, ◌&&◌, eqb, leb, List, [], ◌∷◌, ◌++◌, length, get_or, take, drop, ℤ, pos, nat_abs, sym, refl, ap, ◌∙◌, ap₂, arith, w32, SFits}
 use borrow.Author.Differences.{ints}
-use Rattle.std.specs.List.{flat_map, AllByRecursion as All}
+use Rattle.std.specs.List.{flat_map, AllByRecursion}
 use Rattle.std.proofs.ByRecursion.{All-append, All-from_get_or}
 use Rattle.std.proofs.lemmas.List.{append_assoc, drop_more, length-append, length_push, same_from_push, take_all}
 use Rattle.std.proofs.lemmas.Bool.{and_parts}
@@ -32,7 +32,7 @@ shown_step rec h = rw h
 
 -- each number has its place
 abbrev pub RowHeld : List ℤ → Type 0
-RowHeld row = (length row ≡ 9) × All (SFits w32) row
+RowHeld row = (length row ≡ 9) × AllByRecursion (SFits w32) row
 
 abbrev pub Held : Record → Type 0
 Held (input tag row) = (tag < 2 ^ 16) × RowHeld row
@@ -77,7 +77,7 @@ abbrev standing : List ℕ → ℕ → ℕ → List ℤ
 standing xs at zero = []
 standing xs at (suc k) = le_i32 xs at ∷ standing xs (at + 4) k
 
-standing_forth : (pre : List ℕ) (zs : List ℤ) (post : List ℕ) (at : ℕ) → length pre ≡ at → All (SFits w32) zs → standing (pre ++ (flat_map bytes_i32 zs ++ post)) at (length zs) ≡ zs
+standing_forth : (pre : List ℕ) (zs : List ℤ) (post : List ℕ) (at : ℕ) → length pre ≡ at → AllByRecursion (SFits w32) zs → standing (pre ++ (flat_map bytes_i32 zs ++ post)) at (length zs) ≡ zs
 standing_forth pre [] post at l h = refl
 standing_forth pre (z ∷ zs) post at l h =
     let rest : List ℕ = flat_map bytes_i32 zs ++ post in

@@ -2,10 +2,10 @@
 use Rattle.std.specs.Prelude.{ℕ, ◌+◌, ◌*◌, ◌/◌, ◌%◌, ◌<◌, Bool, true, ◌&&◌, List, [], ◌∷◌, ℤ, ◌==◌, slice_index, slice_range}
 use Rattle.std.specs.Int.{w32}
 use Rattle.std.proofs.Common.{to_z, of_z}
-use Rattle.std.specs.List.{AllByRecursion as All}
+use Rattle.std.specs.List.{AllByRecursion}
 
 abbrev pub AllBytes : List ℕ → Type 0
-AllBytes bs = All (λ b. b < 256) bs
+AllBytes bs = AllByRecursion (λ b. b < 256) bs
 
 -- the number that stands at a byte: of 16 bits, of 32 bits, signed of 32 bits
 abbrev pub le16 : List ℕ → ℕ → ℕ

@@ -3,7 +3,7 @@
 --   A point is the list d ∷ N1 ∷ N2 ∷ .. with d ≥ 1 and stands for the fractions xi = Ni/d.
 -- So place k of both lists belongs to xk, and place 0 to the constant and the denominator.
 use Rattle.std.specs.Prelude.{◌≡◌, ℕ, zero, suc, ◌^◌, ◌<◌, Bool, true, false, cond, ◌&&◌, List, [], ◌∷◌, length, ℤ, pos, negsuc, ◌≤ℤ◌, Some, None, Option, ◌==◌, ◌≢◌, int_le, int_lt, nat_le, slice_index_or}
-use Rattle.std.specs.List.{AllByRecursion as All}
+use Rattle.std.specs.List.{AllByRecursion}
 use Rattle.arith.specs.Dot.{dot, combine}
 use Rattle.arith.specs.Lowest.{within_all, gcd_all, lowest_of}
 
@@ -29,7 +29,7 @@ Satisfies point row = pos 0 ≤ℤ worth_of row point
 
 -- no fractions satisfy all of these rows
 abbrev pub NoFractions : List (List ℤ) → Type 0
-NoFractions rows = (point : List ℤ) → Fractions point → All (Satisfies point) rows → ⊥
+NoFractions rows = (point : List ℤ) → Fractions point → AllByRecursion (Satisfies point) rows → ⊥
 
 -- whether the point satisfies the row, as a test
 abbrev pub is_true : List ℤ → List ℤ → Bool
