@@ -58,7 +58,7 @@ impl Row {
         PlainRow::level(&self.plain)
     }
 
-    // The worth typeof.a1.N1 + .. + typeof.a8.N8 + typeof.b.D at the values.
+    // The worth a1·N1 + .. + a8·N8 + b·D at the values.
     pub fn worth(&self, values: &Values) -> i64
         ensures { result ≡ worth_of self.now.plain.numbers values.now.numbers }
     {
