@@ -1,5 +1,5 @@
 -- Laws of the greatest common divisor of two numbers.
-use Rattle.std.proofs.Common.{◌≡◌, ℕ, zero, suc, ◌*◌, ◌/◌, ◌%◌, ◌<◌, ◌≤◌, sym, refl, subst, le_trans, mod-lt, mul-one, arith}
+use Rattle.std.proofs.Common.{◌≡◌, ℕ, zero, suc, ◌*◌, ◌/◌, ◌%◌, ◌<◌, ◌≤◌, sym, refl, ap, ◌∙◌, subst, le_trans, mod-lt, mul-one, arith}
 use Prim.Native.Nat.{◌∣◌}
 use native.Mathlib.Nat.{dvd_refl, dvd-zero, dvd-mod_iff, dvd_antisymm, pos_of_dvd_of_pos, le_of_dvd, eq-zero_of_zero-dvd, eq-one_of_dvd-one, dvd-mul_right, mul-dvd-mul_left, dvd_of_mul-dvd-mul_left, mul-div_cancel', div-mul_cancel}
 use Rattle.arith.specs.Gcd.{gcd_by, gcd_of, IsGcd}
@@ -55,11 +55,11 @@ gcd_comm a b = let j = gcd_is a b in gcd_unique b a _ (is_gcd b a _ j.right j.le
 pub gcd_one : (b : ℕ) → gcd_of 1 b ≡ 1
 gcd_one b = eq-one_of_dvd-one (gcd_is 1 b).left
 
+pub one_is_gcd : (a b : ℕ) → a ≡ 1 → IsGcd a b 1
+one_is_gcd a b e = subst (IsGcd a b) (ap (λ n. gcd_of n b) e ∙ gcd_one b) (gcd_is a b)
+
 pub gcd_pos : (a b : ℕ) → 0 < b → 0 < gcd_of a b
 gcd_pos a b h = pos_of_dvd_of_pos (gcd_is a b).right h
-
-pub gcd_pos_left : (a b : ℕ) → 0 < a → 0 < gcd_of a b
-gcd_pos_left a b h = pos_of_dvd_of_pos (gcd_is a b).left h
 
 pub gcd_within : (a b m : ℕ) → a ≤ m → b ≤ m → gcd_of a b ≤ m
 unfolding gcd_of gcd_by

@@ -1,5 +1,5 @@
 -- The sum of products is linear in each of its lists; combinations place by place.
-use Rattle.std.proofs.Common.{◌≡◌, ℕ, zero, suc, ◌+◌, ◌<◌, List, [], ◌∷◌, ◌++◌, length, get_or, take, ℤ, pos, ◌+ℤ◌, ◌*ℤ◌, ◌≤ℤ◌, sym, refl, ap, ◌∙◌, ap₂, add-one, arith}
+use Rattle.std.proofs.Common.{◌≡◌, ℕ, zero, suc, ◌+◌, ◌<◌, List, [], ◌∷◌, length, get_or, take, ℤ, pos, ◌+ℤ◌, ◌*ℤ◌, ◌≤ℤ◌, sym, refl, ap, ◌∙◌, ap₂, add-one, arith}
 use lib.IntN.{*ℤ-zero, *ℤ_comm, +ℤ_idl, +ℤ_idr, +ℤ_assoc}
 use borrow.Author.Differences.{ints}
 use Rattle.arith.specs.Dot.{dot, combine, plus, scaled}
@@ -74,14 +74,3 @@ slice_index_or-combine u [] v ys i h k = absurd (omega arith)
 slice_index_or-combine u (x ∷ xs) v [] i h k = absurd (omega arith)
 slice_index_or-combine u (x ∷ xs) v (y ∷ ys) zero h k = refl
 slice_index_or-combine u (x ∷ xs) v (y ∷ ys) (suc i) h k = slice_index_or-combine u xs v ys i (omega arith) (omega arith)
-
--- one place more
-pub combine_more : (u : ℤ) (xs : List ℤ) (v : ℤ) (ys : List ℤ) (i : ℕ) → i < length xs → i < length ys → combine u (take (i + 1) xs) v (take (i + 1) ys) ≡ combine u (take i xs) v (take i ys) ++ ((u *ℤ get_or xs i (pos 0) +ℤ v *ℤ get_or ys i (pos 0)) ∷ [])
-unfolding combine
-combine_more u xs v ys i h k = rw add-one (go xs ys i h k)
-  where
-    go : (xs ys : List ℤ) (i : ℕ) → i < length xs → i < length ys → combine u (take (suc i) xs) v (take (suc i) ys) ≡ combine u (take i xs) v (take i ys) ++ ((u *ℤ get_or xs i (pos 0) +ℤ v *ℤ get_or ys i (pos 0)) ∷ [])
-    go [] ys i h k = absurd (omega arith)
-    go (x ∷ xs) [] i h k = absurd (omega arith)
-    go (x ∷ xs) (y ∷ ys) zero h k = refl
-    go (x ∷ xs) (y ∷ ys) (suc i) h k = ap (λ (zs : List ℤ). (u *ℤ x +ℤ v *ℤ y) ∷ zs) (go xs ys i (omega arith) (omega arith))

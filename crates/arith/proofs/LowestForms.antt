@@ -1,13 +1,13 @@
 -- Laws of the greatest common divisor of a list, of limits on magnitudes, and of the lowest form.
-use Rattle.std.proofs.Common.{◌≡◌, ℕ, zero, suc, ◌+◌, ◌*◌, ◌/◌, ◌<◌, ◌≤◌, true, false, leb, ◌⊎◌, List, [], ◌∷◌, map, length, get_or, drop, set, ℤ, pos, negsuc, ◌*ℤ◌, neg_ℤ, nat_abs, ◌≤ℤ◌, sym, refl, ap, ◌∙◌, subst, ap₂, inl, inr, zero-le, le_trans, mul-zero, mul-one, div-le_self, arith}
+use Rattle.std.proofs.Common.{◌≡◌, ℕ, zero, suc, ◌*◌, ◌/◌, ◌≤◌, true, leb, ◌⊎◌, List, [], ◌∷◌, map, length, get_or, ℤ, pos, negsuc, ◌*ℤ◌, neg_ℤ, nat_abs, ◌≤ℤ◌, sym, refl, ap, ◌∙◌, subst, ap₂, inl, inr, zero-le, le_trans, mul-zero, mul-one, div-le_self, arith}
 use Prim.Native.Nat.{◌∣◌}
 use native.Mathlib.Nat.{dvd_refl, dvd-zero, dvd_trans, mul-dvd-mul_left, dvd_of_mul-dvd-mul_left, mul-div_cancel', eq-one_of_dvd-one, eq-zero_of_zero-dvd, le_of_dvd, zero-div}
 use borrow.Author.Differences.{ints}
 use lib.IntN.{*ℤ-zero}
 use lib.ListN.{length-map}
+use Rattle.std.proofs.Math.ListN.{get_or-map}
 use lib.Signed.{quot_z}
-use Rattle.std.proofs.lemmas.List.{drop_more}
-use Rattle.std.proofs.lemmas.Bool.{le-leb, lt-leb, leb-true, and_parts, and_from}
+use Rattle.std.proofs.lemmas.Bool.{leb-true, and_parts}
 use Rattle.arith.specs.Gcd.{gcd_of}
 use Rattle.arith.specs.Dot.{dot, scaled}
 use Rattle.arith.specs.Lowest.{AllWithin, within_all, gcd_from, gcd_all, divided, lowest_of, IsLowest}
@@ -17,55 +17,27 @@ use Rattle.arith.proofs.Dots.{dot-scaled}
 
 -- the greatest common divisor of a list divides each of its numbers, and every common divisor divides it
 pub from_divides_start : (g : ℕ) (zs : List ℤ) → gcd_from g zs ∣ g
-unfolding gcd_from
 from_divides_start g [] = dvd_refl g
 from_divides_start g (z ∷ zs) = dvd_trans _ (from_divides_start (gcd_of g (nat_abs z)) zs) (gcd_is g (nat_abs z)).left
 
 pub from_divides : (g : ℕ) (zs : List ℤ) (k : ℕ) → gcd_from g zs ∣ nat_abs (get_or zs k (pos 0))
-unfolding gcd_from
 from_divides g [] k = dvd-zero g
 from_divides g (z ∷ zs) zero = dvd_trans _ (from_divides_start (gcd_of g (nat_abs z)) zs) (gcd_is g (nat_abs z)).right
 from_divides g (z ∷ zs) (suc k) = from_divides (gcd_of g (nat_abs z)) zs k
 
 pub from_greatest : (g : ℕ) (zs : List ℤ) (d : ℕ) → d ∣ g → ((k : ℕ) → d ∣ nat_abs (get_or zs k (pos 0))) → d ∣ gcd_from g zs
-unfolding gcd_from
 from_greatest g [] d h a = h
 from_greatest g (z ∷ zs) d h a = from_greatest (gcd_of g (nat_abs z)) zs d ((gcd_is g (nat_abs z)).greatest d h (a zero)) (λ k. a (suc k))
 
 pub from_within : (g m : ℕ) (zs : List ℤ) → g ≤ m → AllWithin m zs → gcd_from g zs ≤ m
-unfolding gcd_from
 from_within g m [] h a = h
 from_within g m (z ∷ zs) h a = from_within (gcd_of g (nat_abs z)) m zs (gcd_within g (nat_abs z) m h (a zero)) (λ k. a (suc k))
 
 -- limits: the test and what it says
 pub within_is : (m : ℕ) (zs : List ℤ) → within_all m zs ≡ true → AllWithin m zs
-unfolding within_all
 within_is m [] e k = zero-le
 within_is m (z ∷ zs) e zero = leb-true (nat_abs z) m (and_parts _ _ e).0
 within_is m (z ∷ zs) e (suc k) = within_is m zs (and_parts (leb (nat_abs z) m) _ e).1 k
-
-pub within_from : (m : ℕ) (zs : List ℤ) → AllWithin m zs → within_all m zs ≡ true
-unfolding within_all
-within_from m [] a = refl
-within_from m (z ∷ zs) a = and_from _ _ (le-leb (nat_abs z) m (a zero)) (within_from m zs (λ k. a (suc k)))
-
-pub within_more : (m : ℕ) (zs : List ℤ) (i : ℕ) → i < length zs → nat_abs (get_or zs i (pos 0)) ≤ m → within_all m (drop (i + 1) zs) ≡ within_all m (drop i zs)
-unfolding within_all
-within_more m zs i l h = let t = le-leb (nat_abs (get_or zs i (pos 0))) m h in rw (drop_more zs i (pos 0) l, t)
-
-pub within_stop : (m : ℕ) (zs : List ℤ) (i : ℕ) → i < length zs → m < nat_abs (get_or zs i (pos 0)) → within_all m (drop i zs) ≡ false
-unfolding within_all
-within_stop m zs i l h = let t = lt-leb (nat_abs (get_or zs i (pos 0))) m h in rw (drop_more zs i (pos 0) l, t)
-
-pub within_weaken : (m n : ℕ) (zs : List ℤ) → m ≤ n → AllWithin m zs → AllWithin n zs
-within_weaken m n zs h a k = le_trans (a k) h
-
-pub within_set : (m : ℕ) (zs : List ℤ) (i : ℕ) (z : ℤ) → nat_abs z ≤ m → AllWithin m zs → AllWithin m (set zs i z)
-within_set m [] i z h a k = zero-le
-within_set m (x ∷ zs) zero z h a zero = h
-within_set m (x ∷ zs) zero z h a (suc k) = a (suc k)
-within_set m (x ∷ zs) (suc i) z h a zero = a zero
-within_set m (x ∷ zs) (suc i) z h a (suc k) = within_set m zs i z h (λ j. a (suc j)) k
 
 -- a number divided by a divisor of its magnitude, and times it again
 pub abs_quot : (z : ℤ) (g : ℕ) → nat_abs (quot_z z (pos g)) ≡ nat_abs z / g
@@ -92,9 +64,7 @@ quot_zero g = ap pos (zero-div g)
 
 -- a place of a mapped list, also past its end
 pub at_map : (f : ℤ → ℤ) → f (pos 0) ≡ pos 0 → (zs : List ℤ) (k : ℕ) → get_or (map f zs) k (pos 0) ≡ f (get_or zs k (pos 0))
-at_map f e [] k = sym e
-at_map f e (z ∷ zs) zero = refl
-at_map f e (z ∷ zs) (suc k) = at_map f e zs k
+at_map f e zs k = ap (get_or (map f zs) k) (sym e) ∙ get_or-map f zs k (pos 0)
 
 map_same : (f : ℤ → ℤ) (zs : List ℤ) → ((k : ℕ) → f (get_or zs k (pos 0)) ≡ get_or zs k (pos 0)) → map f zs ≡ zs
 map_same f [] h = refl

@@ -1,6 +1,7 @@
 -- Lists of whole numbers: limits on their magnitudes, their greatest common divisor, their lowest form.
-use Rattle.std.specs.Prelude.{◌≡◌, ℕ, zero, suc, ◌<◌, ◌≤◌, Bool, true, ◌&&◌, ◌⊎◌, List, [], ◌∷◌, map, ℤ, pos, int_div, nat_le, slice_index_or, unsigned_abs}
+use Rattle.std.specs.Prelude.{◌≡◌, ℕ, zero, suc, ◌<◌, ◌≤◌, Bool, ◌⊎◌, List, fold, map, ℤ, pos, int_div, nat_le, slice_index_or, unsigned_abs}
 use Rattle.std.specs.Int.{◌∣◌}
+use Rattle.std.specs.List.{list_all}
 use Rattle.arith.specs.Dot.{scaled}
 use Rattle.arith.specs.Gcd.{gcd_of}
 
@@ -9,14 +10,12 @@ abbrev pub AllWithin : ℕ → List ℤ → Type 0
 AllWithin limit zs = (k : ℕ) → unsigned_abs (slice_index_or zs k (pos 0)) ≤ limit
 
 -- the same as a test
-unfoldable pub within_all : ℕ → List ℤ → Bool
-within_all limit [] = true
-within_all limit (z ∷ zs) = nat_le (unsigned_abs z) limit && within_all limit zs
+abbrev pub within_all : ℕ → List ℤ → Bool
+within_all limit zs = list_all (λ z. nat_le (unsigned_abs z) limit) zs
 
 -- the greatest common divisor of g and of the magnitudes
-unfoldable pub gcd_from : ℕ → List ℤ → ℕ
-gcd_from g [] = g
-gcd_from g (z ∷ zs) = gcd_from (gcd_of g (unsigned_abs z)) zs
+abbrev pub gcd_from : ℕ → List ℤ → ℕ
+gcd_from g zs = fold (λ g z. gcd_of g (unsigned_abs z)) g zs
 
 -- the greatest whole number that divides all the numbers; 0 where all are 0
 abbrev pub gcd_all : List ℤ → ℕ

@@ -6,6 +6,7 @@ ghost use Rattle.std.specs.Prelude.{◌≡◌};
 ghost use Rattle.arith.specs.Gcd.{gcd_of, IsGcd};
 
 // The greatest common divisor; 0 where both are 0.
+#[tactic(auto, using(crate::proofs::Divisors::gcd_one))]
 pub fn gcd(a: u64, b: u64) -> u64
     ensures value { result ≡ gcd_of a b }
     ensures greatest { IsGcd a b result }
@@ -17,16 +18,13 @@ pub fn gcd(a: u64, b: u64) -> u64
     euclid(a, b)
 }
 
+#[tactic(auto, using(crate::proofs::Divisors::gcd_zero, crate::proofs::Divisors::gcd_step))]
 fn euclid(a: u64, b: u64) -> u64
-    ensures value { result ≡ gcd_of a b }
-    ensures greatest { IsGcd a b result }
+    ensures { result ≡ gcd_of a b }
 {
-    let mut x = a;
-    let mut y = b;
+    let (mut x, mut y) = (a, b);
     while y != 0 {
-        let rest = x % y;
-        x = y;
-        y = rest;
+        (x, y) = (y, x % y);
     }
     x
 }

@@ -5,7 +5,7 @@ ghost use Rattle.choices.specs.Likely.{admitted_at};
 ghost use Rattle.intervals.proofs.Layers.{layer_keeps};
 ghost use Rattle.choices.specs.LikelyLaw.{likely_offers};
 
-use intervals::{Chooser, Fraction, Interval};
+use intervals::{Chooser, Fraction, Interval, named_or_below};
 
 // Names the value that the site holds likely, where the interval admits it, else what the chooser below names.
 #[derive(Clone, Copy, Drop)]
@@ -24,10 +24,7 @@ impl<C: Chooser> Chooser for Likely<C> {
         ensures value { self.new.value ≡ self.old.value }
         ensures unasked { (is_short self.old.value && inside interval self.old.value) ≡ true → self.new.below ≡ self.old.below }
     {
-        if interval.admits(self.value) {
-            Some(self.value)
-        } else {
-            self.below.choose(interval)
-        }
+        let named = interval.admits(self.value).then_some(self.value);
+        named_or_below(named, &mut self.below, interval)
     }
 }

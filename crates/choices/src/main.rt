@@ -11,7 +11,7 @@ use choosers::{Dyadic, Edge, Simplest};
 use intervals::{Chooser, Fraction, Interval};
 use likely::Likely;
 use std::io::{BufRead, BufReader};
-use text::{Choice, parts};
+use text::Choice;
 
 // The slowness that this site holds likely.
 const LIKELY: Fraction = Fraction {
@@ -27,10 +27,10 @@ fn asked<C: Chooser>(chooser: &mut C, interval: Interval) -> Option<Fraction>
 }
 
 fn ask<C: Chooser>(
+    rt: &impl Print,
     name: &str,
     mut chooser: C,
     interval: Interval,
-    rt: &HostRuntime,
 ) -> anyhow::Result<()>
 where
     C: Drop,
@@ -40,51 +40,29 @@ where
     Ok(())
 }
 
-fn ask_all(rt: &HostRuntime, interval: Interval) -> anyhow::Result<()> {
-    ask("simplest", Simplest, interval, rt)?;
-    ask(", edge", Edge { below: Simplest }, interval, rt)?;
-    ask(", dyadic", Dyadic { below: Simplest }, interval, rt)?;
-    ask(
-        ", dyadic edge",
-        Dyadic {
-            below: Edge { below: Simplest },
-        },
-        interval,
-        rt,
-    )?;
-    ask(
-        ", edge dyadic",
-        Edge {
-            below: Dyadic { below: Simplest },
-        },
-        interval,
-        rt,
-    )?;
-    ask(
-        ", likely",
-        Likely {
-            value: LIKELY,
-            below: Simplest,
-        },
-        interval,
-        rt,
-    )?;
+fn ask_all(rt: &impl Print, interval: Interval) -> anyhow::Result<()> {
+    let edge = Edge { below: Simplest };
+    let dyadic = Dyadic { below: Simplest };
+    let likely = Likely {
+        value: LIKELY,
+        below: Simplest,
+    };
+    ask(rt, "simplest", Simplest, interval)?;
+    ask(rt, ", edge", edge, interval)?;
+    ask(rt, ", dyadic", dyadic, interval)?;
+    ask(rt, ", dyadic edge", Dyadic { below: edge }, interval)?;
+    ask(rt, ", edge dyadic", Edge { below: dyadic }, interval)?;
+    ask(rt, ", likely", likely, interval)?;
     println!(rt)?;
     Ok(())
 }
 
-fn answer(rt: &HostRuntime, line: &str) -> anyhow::Result<()> {
-    let Some((scale, lower, upper)) = parts(line) else {
-        println!(rt; "not understood")?;
-        return Ok(());
-    };
-    match Interval::of(scale, lower, upper) {
-        Some(interval) => ask_all(rt, interval),
-        None => {
-            println!(rt; "no interval")?;
-            Ok(())
-        }
+fn answer(rt: &impl Print, line: &str) -> anyhow::Result<()> {
+    match text::interval(line) {
+        Ok(interval) => ask_all(rt, interval)?,
+        Err(error) => println!(rt; "{error}")?,
     }
+    Ok(())
 }
 
 fn main(rt: HostRuntime) -> anyhow::Result<()> {

@@ -1,25 +1,26 @@
 -- What dyadic names: the fraction over the least power of two that serves.
-use Rattle.std.specs.Prelude.{◌≡◌, ℕ, zero, suc, ◌*◌, ◌^◌, ◌<◌, ◌≤◌, true, cond, ℤ, Some, None, Option, nat_le, unsigned_abs}
-use Rattle.std.specs.Option.{option_or}
+use Rattle.std.specs.Prelude.{◌≡◌, ℕ, ◌^◌, ◌<◌, ◌≤◌, true, ℤ, Some, None, Option, option_and_then, nat_le, unsigned_abs}
+use Rattle.std.specs.Bool.{then_some}
+use Rattle.std.specs.List.{slice_get, filter_map, range_with_len}
+use Rattle.std.specs.Option.{option_map}
 use Rattle.rows.specs.Rows.{value_limit}
 use Rattle.intervals.specs.Meaning.{inside, Rule, layered}
 use Rattle.intervals.specs.declared.fraction.Fraction.{Fraction}
 use Rattle.intervals.specs.declared.interval.Interval.{Interval}
 use Rattle.choosers.specs.Nearest.{nearest_at, over}
+use Rattle.choosers.specs.Spans.{Seen, signed, LeastOver}
 
--- n/m, if n is within 2^18
+-- n/m, if there is an n and it is within 2^18
 abbrev pub within_limit : Option ℤ → ℕ → Option Fraction
-within_limit None m = None
-within_limit (Some n) m = cond (nat_le (unsigned_abs n) value_limit) (Some (over n m)) None
+within_limit n m = option_and_then (λ n. then_some (nat_le (unsigned_abs n) value_limit) (over n m)) n
 
--- of so many powers of two, from m on, the first m for which some n/m with n within 2^18 lies in the interval; n is the nearest to 0
-unfoldable pub powers_from : ℕ → ℕ → Interval → Option Fraction
-powers_from zero m i = None
-powers_from (suc more) m i = option_or (within_limit (nearest_at i m) m) (powers_from more (2 * m) i)
+-- of the n/2^k in the interval the nearest to 0, if n is within 2^18
+abbrev pub over_power : Interval → ℕ → Option Fraction
+over_power i k = within_limit (nearest_at i (2 ^ k)) (2 ^ k)
 
--- m is 1, 2, 4, .., 2^18
-abbrev pub dyadic_of : Interval → Option Fraction
-dyadic_of i = powers_from 19 1 i
+-- the first of these over 1, 2, 4, .., 2^18
+unfoldable pub dyadic_of : Interval → Option Fraction
+dyadic_of i = slice_get (filter_map (over_power i) (range_with_len 0 19)) 0
 
 -- else what the chooser below names
 abbrev pub dyadic_over : Rule → Rule
@@ -43,3 +44,7 @@ pub record IsDyadic (i : Interval) (f : Fraction) : Type 0 where
 abbrev pub NamesDyadic : Interval → Option Fraction → Type 0
 NamesDyadic i (Some f) = IsDyadic i f
 NamesDyadic i None = (k : ℕ) → k ≤ 18 → NoneOver i k
+
+-- what is named of a span over m: n/m for the least n, with its sign, if n is within 2^18
+abbrev pub NamesOver : Seen → ℕ → Option Fraction → Type 0
+NamesOver s m r = (n : Option ℕ) × LeastOver s.near s.far m n × (r ≡ within_limit (option_map (signed s.side) n) m)

@@ -4,10 +4,12 @@ pub mod Edge
 pub mod Dyadic
 pub mod Spans
 pub mod Worked
+pub mod Firsts
 pub mod DyadicLaw
 pub mod NearestLaw
 pub mod SimplestLaw
 pub mod Leasts
+pub mod Tests
+pub mod SidesLaw
 pub mod SpanLaw
-pub mod Turns
 pub mod EdgeLaw

@@ -1,5 +1,6 @@
 -- Whole numbers p for which p/q lies in an interval, and of these the nearest to 0.
 use Rattle.std.specs.Prelude.{ℕ, ◌*◌, cond, ℤ, pos, ◌*ℤ◌, neg_ℤ, Some, None, Option, int_le}
+use Rattle.std.specs.Bool.{then_some}
 use Rattle.std.specs.Int.{int_max, int_min, int_div_euclid}
 use Rattle.std.specs.Option.{option_map}
 use Rattle.intervals.specs.Meaning.{is_short}
@@ -32,4 +33,4 @@ over p q = record { numerator = p; denominator = q }
 
 -- the fraction, if it is short
 abbrev pub if_short : Fraction → Option Fraction
-if_short f = cond (is_short f) (Some f) None
+if_short f = then_some (is_short f) f

@@ -1,16 +1,22 @@
 -- `nearest_at` gives the whole number p nearest to 0 with p/q in the interval, and there is only one such.
 use Rattle.std.specs.Prelude.{◌≡◌, ℕ, ◌*◌, ◌<◌, ◌≤◌, Bool, true, false, cond, ◌&&◌, ◌⊎◌, ℤ, pos, ◌*ℤ◌, neg_ℤ, Some, None, Option, ◌≢◌, int_le, unsigned_abs, refl}
-use Rattle.std.proofs.Common.{inl, inr, sym, ◌∙◌, ap, ap₂, subst, mul-pos, le_antisymm, arith}
+use Rattle.std.proofs.Common.{rules, inl, inr, sym, ap₂, subst, mul-pos, le_antisymm, arith}
 use Rattle.std.specs.Int.{int_max, int_min}
 use Rattle.std.specs.Option.{option_map}
 use Rattle.std.proofs.lemmas.Int.{clamps, ints}
+use Rattle.std.proofs.lemmas.Grind.{common_steps}
 use Rattle.std.proofs.lemmas.Bool.{and_parts, and_from}
 use Rattle.arith.proofs.Floors.{floor_same, ceiling_same}
 use Rattle.arith.proofs.Integers.{neg-*ℤ, zero_times}
+use Rattle.intervals.specs.Bounds.{EndFraction}
 use Rattle.intervals.specs.Meaning.{from_lower, to_upper, inside}
 use Rattle.intervals.specs.declared.interval.End.{End}
 use Rattle.intervals.specs.declared.interval.Interval.{Interval}
 use Rattle.intervals.proofs.Limits.{interval_limits}
+use Rattle.choosers.specs.SidesLaw.{past, inside_past, inside_from}
+use Rattle.choosers.specs.Spans.{end_of}
+use Rattle.choosers.specs.declared.side.Side.{Side}
+use Rattle.choosers.specs.declared.side.Side.TheVariants.{Above, Below}
 use Rattle.choosers.specs.Nearest.{floor_at, ceiling_at, nearest_of, nearest_at, over}
 
 -- p, or nothing, is the nearest to 0 of the numbers that pass the test
@@ -33,40 +39,19 @@ to_high (Some high) s = int_le s high
 in_bounds : Option ℤ → Option ℤ → ℤ → Bool
 in_bounds low high s = from_low low s && to_high high s
 
-low_max : (low : ℤ) → int_le low (int_max low (pos 0)) ≡ true
-low_max low = grind (arith, ints)
-
-max_least : (low s : ℤ) → int_le low s ≡ true → unsigned_abs (int_max low (pos 0)) ≤ unsigned_abs s
-max_least low s h = omega (arith, ints, clamps)
-
-min_high : (high : ℤ) → int_le (int_min high (pos 0)) high ≡ true
-min_high high = grind (arith, ints)
-
-min_least : (high s : ℤ) → int_le s high ≡ true → unsigned_abs (int_min high (pos 0)) ≤ unsigned_abs s
-min_least high s h = omega (arith, ints, clamps)
-
-mid_low : (low high : ℤ) → int_le low (int_max low (int_min high (pos 0))) ≡ true
-mid_low low high = grind (arith, ints)
-
-mid_high : (low high : ℤ) → int_le low high ≡ true → int_le (int_max low (int_min high (pos 0))) high ≡ true
-mid_high low high h = grind (arith, ints)
-
-mid_least : (low high s : ℤ) → int_le low s ≡ true → int_le s high ≡ true → unsigned_abs (int_max low (int_min high (pos 0))) ≤ unsigned_abs s
-mid_least low high s h k = omega (arith, ints, clamps)
-
-no_mid : (low high s : ℤ) → int_le low high ≡ false → int_le low s ≡ true → int_le s high ≢ true
-no_mid low high s e h k = omega (arith, ints)
-
 nearest_of_lem : (low high : Option ℤ) → NearestBy (in_bounds low high) (nearest_of low high)
 unfolding in_bounds from_low to_high
 nearest_of_lem None None = (refl, λ s h. omega arith)
-nearest_of_lem (Some low) None = (and_from _ _ (low_max low) refl, λ s h. max_least low s (and_parts _ _ h).0)
-nearest_of_lem None (Some high) = (min_high high, λ s h. min_least high s h)
+nearest_of_lem (Some low) None = (grind (arith, ints), λ s h. let k = (and_parts (int_le low s) true h).0 in omega (arith, ints, clamps))
+nearest_of_lem None (Some high) = (grind (arith, ints), λ s h. let k : int_le s high ≡ true = h in omega (arith, ints, clamps))
 nearest_of_lem (Some low) (Some high) = on (int_le low high) refl
   where
+    least : (low high s : ℤ) → int_le low s ≡ true → int_le s high ≡ true → unsigned_abs (int_max low (int_min high (pos 0))) ≤ unsigned_abs s
+    least low high s h k = omega (arith, ints, clamps)
+
     on : (b : Bool) → int_le low high ≡ b → NearestBy (in_bounds (Some low) (Some high)) (cond b (Some (int_max low (int_min high (pos 0)))) None)
-    on true e = (and_from _ _ (mid_low low high) (mid_high low high e), λ s h. let p = and_parts (int_le low s) _ h in mid_least low high s p.0 p.1)
-    on false e = λ s h. let p = and_parts (int_le low s) _ h in no_mid low high s e p.0 p.1
+    on true e = let m = int_max low (int_min high (pos 0)) in (and_from (int_le low m) (int_le m high) (grind (arith, ints)) (grind (arith, ints)), λ s h. let p = and_parts (int_le low s) _ h in least low high s p.0 p.1)
+    on false e = λ s h. let p = and_parts (int_le low s) _ h in omega (arith, ints, p.0, p.1)
 
 -- p/q against the ends, and p against the ends rounded, are the same tests
 lower_same : (scale q : ℕ) (lower : Option End) (p : ℤ) → ((e : End) → lower ≡ Some e → 0 < e.divisor * scale) → from_lower scale lower (over p q) ≡ from_low (option_map (λ e. ceiling_at scale e q) lower) p
@@ -81,8 +66,7 @@ upper_same scale q (Some e) p h = sym (floor_same p (e.numerator *ℤ pos q) (e.
 
 -- the nearest by one test is the nearest by another that is the same
 by_same : (t u : ℤ → Bool) → ((p : ℤ) → t p ≡ u p) → (r : Option ℤ) → NearestBy u r → NearestBy t r
-by_same t u e (Some p) n = (e p ∙ n.0, λ s h. n.1 s (sym (e s) ∙ h))
-by_same t u e None n = λ s h. n s (sym (e s) ∙ h)
+by_same t u e r n = search (rules, e)
 
 pub nearest_is : (i : Interval) (q : ℕ) → Nearest i q (nearest_at i q)
 unfolding in_bounds
@@ -95,31 +79,16 @@ nearest_is i q =
     (nearest_of_lem (option_map (λ e. ceiling_at i.scale e q) i.lower) (option_map (λ e. floor_at i.scale e q) i.upper))
 
 -- where p/q and -p/q lie in the interval, so does 0/q
-below_both : (x y : ℤ) → int_le x y ≡ true → int_le x (neg_ℤ y) ≡ true → int_le x (pos 0) ≡ true
-below_both x y h k = grind (arith, ints)
+past_zero : (e : Option EndFraction) (side : Side) (p : ℤ) (q : ℕ) → past e side p q ≡ true → past e side (neg_ℤ p) q ≡ true → past e side (pos 0) q ≡ true
+past_zero None side p q h k = refl
+past_zero (Some e) Above p q h k = grind (arith, ints, neg-*ℤ, zero_times)
+past_zero (Some e) Below p q h k = grind (arith, ints, neg-*ℤ, zero_times)
 
-above_both : (x y : ℤ) → int_le y x ≡ true → int_le (neg_ℤ y) x ≡ true → int_le (pos 0) x ≡ true
-above_both x y h k = grind (arith, ints)
-
-lower_zero : (scale q : ℕ) (lower : Option End) (p : ℤ) → from_lower scale lower (over p q) ≡ true → from_lower scale lower (over (neg_ℤ p) q) ≡ true → from_lower scale lower (over (pos 0) q) ≡ true
-lower_zero scale q None p h k = refl
-lower_zero scale q (Some e) p h k =
-    let m = e.divisor * scale in
-    let x = e.numerator *ℤ pos q in
-    ap (int_le x) (zero_times m) ∙ below_both x (p *ℤ pos m) h (ap (int_le x) (sym (neg-*ℤ p (pos m))) ∙ k)
-
-upper_zero : (scale q : ℕ) (upper : Option End) (p : ℤ) → to_upper scale upper (over p q) ≡ true → to_upper scale upper (over (neg_ℤ p) q) ≡ true → to_upper scale upper (over (pos 0) q) ≡ true
-upper_zero scale q None p h k = refl
-upper_zero scale q (Some e) p h k =
-    let m = e.divisor * scale in
-    let x = e.numerator *ℤ pos q in
-    ap (λ z. int_le z x) (zero_times m) ∙ above_both x (p *ℤ pos m) h (ap (λ z. int_le z x) (sym (neg-*ℤ p (pos m))) ∙ k)
-
-pub zero_inside : (i : Interval) (p : ℤ) (q : ℕ) → inside i (over p q) ≡ true → inside i (over (neg_ℤ p) q) ≡ true → inside i (over (pos 0) q) ≡ true
-zero_inside i p q h k =
-    let a = and_parts (from_lower i.scale i.lower (over p q)) _ h in
-    let b = and_parts (from_lower i.scale i.lower (over (neg_ℤ p) q)) _ k in
-    and_from _ _ (lower_zero i.scale q i.lower p a.0 b.0) (upper_zero i.scale q i.upper p a.1 b.1)
+zero_inside : (i : Interval) (p : ℤ) (q : ℕ) → inside i (over p q) ≡ true → inside i (over (neg_ℤ p) q) ≡ true → inside i (over (pos 0) q) ≡ true
+zero_inside i p q h k = inside_from i Above (pos 0) q (on Above) (on Below)
+  where
+    on : (side : Side) → past (end_of side i) side (pos 0) q ≡ true
+    on side = past_zero (end_of side i) side p q (inside_past i side p q h) (inside_past i side (neg_ℤ p) q k)
 
 -- two numbers of least magnitude over q are the same
 pub same_magnitude : (i : Interval) (q : ℕ) (p s : ℤ) → Nearest i q (Some p) → Nearest i q (Some s) → p ≡ s
@@ -138,7 +107,4 @@ same_magnitude i q p s n o =
     on (inr e) = none p s e (n.1 (pos 0) (zero_inside i p q n.0 (subst (λ (z : ℤ). inside i (over z q) ≡ true) e o.0)))
 
 pub nearest_unique : (i : Interval) (q : ℕ) (r o : Option ℤ) → Nearest i q r → Nearest i q o → r ≡ o
-nearest_unique i q None None n m = refl
-nearest_unique i q None (Some s) n m = absurd (n s m.0)
-nearest_unique i q (Some p) None n m = absurd (m p n.0)
-nearest_unique i q (Some p) (Some s) n m = ap Some (same_magnitude i q p s n m)
+nearest_unique i q r o n m = grind (arith, common_steps, same_magnitude)

@@ -1,23 +1,19 @@
 -- The simplest fraction of an interval: that of least denominator, and among those the one of least numerator in magnitude.
-use Rattle.std.specs.Prelude.{◌≡◌, ℕ, zero, suc, ◌^◌, ◌≤◌, true, ℤ, Some, None, Option, unsigned_abs}
+use Rattle.std.specs.Prelude.{◌≡◌, ℕ, ◌^◌, ◌≤◌, true, Option, option_and_then, unsigned_abs}
+use Rattle.std.specs.List.{slice_get, filter_map, range_with_len}
+use Rattle.std.specs.Option.{option_map}
 use Rattle.intervals.specs.Meaning.{inside}
 use Rattle.intervals.specs.declared.fraction.Fraction.{Fraction}
 use Rattle.intervals.specs.declared.interval.Interval.{Interval}
 use Rattle.choosers.specs.Nearest.{nearest_at, over, if_short}
 
--- p/q if it is short, where there is a p, and else what comes later
-abbrev pub over_or : Option ℤ → ℕ → Option Fraction → Option Fraction
-over_or (Some p) q later = if_short (over p q)
-over_or None q later = later
+-- of the fractions over q in the interval the nearest to 0
+abbrev pub nearest_over : Interval → ℕ → Option Fraction
+nearest_over i q = option_map (λ p. over p q) (nearest_at i q)
 
--- the first of so many denominators, from q on, with a fraction in the interval; its numerator is the nearest to 0
-unfoldable pub first_from : ℕ → ℕ → Interval → Option Fraction
-first_from zero q i = None
-first_from (suc more) q i = over_or (nearest_at i q) q (first_from more (suc q) i)
-
--- what simplest names: no denominator past 2^18 is short
-abbrev pub simplest_of : Interval → Option Fraction
-simplest_of i = first_from (2 ^ 18) 1 i
+-- the first of these over 1, 2, 3, .., 2^18, if it is short; no denominator past 2^18 is short
+unfoldable pub simplest_of : Interval → Option Fraction
+simplest_of i = option_and_then if_short (slice_get (filter_map (nearest_over i) (range_with_len 1 (2 ^ 18))) 0)
 
 -- what makes a fraction the simplest: it lies in the interval, no fraction there has a lesser denominator, and none with its denominator has
 -- a numerator of lesser magnitude

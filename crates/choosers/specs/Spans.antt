@@ -1,34 +1,54 @@
 -- An interval without 0, seen from 0: on which side it lies, and by magnitudes its end next to 0 and, if there is one, the end behind that.
-use Rattle.std.specs.Prelude.{ℕ, ◌*◌, ◌^◌, ◌≤◌, Bool, true, false, cond, ℤ, pos, neg_ℤ, Some, None, Option, int_lt, unsigned_abs}
+use Rattle.std.specs.Prelude.{ℕ, ◌*◌, ◌^◌, ◌≤◌, Bool, ℤ, pos, neg_ℤ, Some, None, Option, int_lt, unsigned_abs}
+use Rattle.std.specs.Bool.{then_some}
 use Rattle.std.specs.Option.{option_map, option_or}
 use Rattle.rows.specs.Rows.{value_limit}
-use Rattle.intervals.specs.declared.interval.End.{End}
+use Rattle.intervals.specs.Bounds.{EndFraction, bound_of}
 use Rattle.intervals.specs.declared.interval.Interval.{Interval}
 use Rattle.choosers.specs.declared.ratio.Ratio.{Ratio}
-use Rattle.choosers.specs.declared.span.Span.{Span}
+use Rattle.choosers.specs.declared.side.Side.{Side}
+use Rattle.choosers.specs.declared.side.Side.TheVariants.{Above, Below}
 
-abbrev pub magnitude_of : ℕ → End → Ratio
-magnitude_of scale e = record { over = unsigned_abs e.numerator; under = e.divisor * scale }
+-- on which side of 0 the interval lies, its end next to 0, and the end behind that, if there is one
+pub record Seen : Type 0 where
+  pub side : Side
+  pub near : Ratio
+  pub far : Option Ratio
 
--- the end is not 0, and lies on this side of it
-abbrev pub is_beyond : Bool → End → Bool
-is_beyond false e = int_lt (pos 0) e.numerator
-is_beyond true e = int_lt e.numerator (pos 0)
+abbrev pub magnitude_of : EndFraction → Ratio
+magnitude_of e = record { over = unsigned_abs e.numerator; under = e.denominator }
+
+-- the number is not 0, and lies on this side of it
+abbrev pub is_on : Side → ℤ → Bool
+is_on Above n = int_lt (pos 0) n
+is_on Below n = int_lt n (pos 0)
+
+-- the number of this magnitude on a side of 0
+abbrev pub signed : Side → ℕ → ℤ
+signed Above k = pos k
+signed Below k = neg_ℤ (pos k)
+
+abbrev pub other : Side → Side
+other Above = Below
+other Below = Above
+
+-- the end that is next to 0 where the interval lies on this side
+abbrev pub end_of : Side → Interval → Option EndFraction
+end_of Above i = option_map (bound_of i.scale) i.lower
+end_of Below i = option_map (bound_of i.scale) i.upper
+
+-- what is seen from the one end on, up to the other if there is that, if the one lies on this side
+abbrev pub seen_between : Side → Option EndFraction → Option EndFraction → Option Seen
+seen_between side None far = None
+seen_between side (Some near) far = then_some (is_on side near.numerator) (record { side = side; near = magnitude_of near; far = option_map magnitude_of far })
 
 -- the interval as seen on one side of 0, if it lies there
-abbrev pub side_of : Bool → ℕ → Option End → Option End → Option Span
-side_of negative scale None far = None
-side_of negative scale (Some near) far =
-    cond (is_beyond negative near) (Some (record { negative = negative; near = magnitude_of scale near; far = option_map (magnitude_of scale) far })) None
+abbrev pub side_of : Side → Interval → Option Seen
+side_of side i = seen_between side (end_of side i) (end_of (other side) i)
 
 -- none where 0 lies in the interval
-abbrev pub span_of : Interval → Option Span
-span_of i = option_or (side_of false i.scale i.lower i.upper) (side_of true i.scale i.upper i.lower)
-
--- the number of this magnitude on one side of 0
-abbrev pub signed : Bool → ℕ → ℤ
-signed false k = pos k
-signed true k = neg_ℤ (pos k)
+abbrev pub span_of : Interval → Option Seen
+span_of i = option_or (side_of Above i) (side_of Below i)
 
 -- p/q is from near to far
 abbrev pub Between : Ratio → Option Ratio → ℕ → ℕ → Type 0

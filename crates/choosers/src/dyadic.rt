@@ -1,14 +1,11 @@
 // Dyadic: the fraction over the least power of two.
-ghost use Rattle.std.specs.Prelude.{◌≡◌, ◌^◌, ◌≤◌, true, is_some};
-ghost use Rattle.std.specs.Option.{option_map};
-ghost use Rattle.choosers.specs.Dyadic.{within_limit, dyadic_of, dyadic_over, NamesDyadic};
-ghost use Rattle.choosers.specs.Spans.{signed, LeastOver, IsSpan};
+ghost use Rattle.std.specs.Prelude.{◌≡◌, ◌^◌, ◌<◌, IsSome};
+ghost use Rattle.choosers.specs.Dyadic.{dyadic_of, dyadic_over, NamesOver, NamesDyadic};
 ghost use Rattle.choosers.specs.DyadicLaw.{dyadic_keeps};
 
-use crate::naming::{ZERO, on_side};
-use crate::ratio::Ratio;
-use crate::spanning::seen;
-use intervals::{Chooser, Fraction, Interval};
+use crate::naming::ZERO;
+use crate::span::Span;
+use intervals::{Chooser, Fraction, Interval, named_or_below};
 use rows::VALUE_LIMIT;
 
 // The powers of two from 1 to 2^18.
@@ -26,62 +23,38 @@ impl<C: Chooser> Chooser for Dyadic<C> {
 
     ghost keeps = { λ c. dyadic_keeps (C.Chooser.rule c.below) (C.Chooser.keeps c.below) };
 
+    #[tactic(auto, using(crate::specs::DyadicLaw::names_dyadic))]
     fn choose(&mut self, interval: Interval) -> Option<Fraction>
         ensures is { result ≡ dyadic_over (C.Chooser.rule self.old.below) interval }
         ensures dyadic { NamesDyadic interval (dyadic_of interval) }
-        ensures unasked { is_some (dyadic_of interval) ≡ true → self.new.below ≡ self.old.below }
+        ensures unasked { IsSome (dyadic_of interval) → self.new.below ≡ self.old.below }
     {
-        match dyadic_in(interval) {
-            Some(fraction) => Some(fraction),
-            None => self.below.choose(interval),
-        }
+        named_or_below(dyadic_in(interval), &mut self.below, interval)
     }
 }
 
 // The choice, if a power of two serves.
+#[tactic(auto, using(crate::proofs::Powers::zero_is_dyadic))]
 fn dyadic_in(interval: Interval) -> Option<Fraction>
-    ensures is { result ≡ dyadic_of interval }
-    ensures dyadic { NamesDyadic interval (dyadic_of interval) }
+    ensures { result ≡ dyadic_of interval }
 {
-    let Some(span) = seen(interval) else {
+    let Some(span) = Span::of(interval) else {
         return Some(ZERO);
     };
-    let mut m = 1;
-    for _ in 0..POWERS {
-        let fraction = within_limit(span.negative, least_over(span.near, span.far, m), m);
-        if fraction.is_some() {
-            return fraction;
-        }
-        m *= 2;
-    }
-    None
+    (0..POWERS).find_map(|exponent| over_power(span, exponent))
 }
 
-// n/m on its side of 0, if n is within the limit.
-fn within_limit(negative: bool, n: Option<u64>, m: u32) -> Option<Fraction>
-    ensures { result ≡ within_limit (option_map (signed negative) n) m }
+// n/2^exponent for the least n that serves, if there is one and it is within the limit.
+#[tactic(auto, using(std::proofs::Common::pow_mono))]
+fn over_power(span: Span, exponent: u32) -> Option<Fraction>
+    requires { exponent < POWERS }
+    ensures { NamesOver span (2 ^ exponent) result }
 {
-    match n {
-        Some(n) if n <= VALUE_LIMIT as u64 => Some(Fraction {
-            numerator: on_side(negative, n) as i32,
-            denominator: m,
-        }),
-        _ => None,
-    }
-}
-
-// The least n for which n/m is from near on, and up to far if there is one.
-fn least_over(near: Ratio, far: Option<Ratio>, m: u32) -> Option<u64>
-    requires { (IsSpan near far) × (m ≤ 2 ^ 18) }
-    ensures { LeastOver near far m result }
-{
-    let n = near.multiplied(m as u64).rounded_up();
-    match far {
-        Some(far) => if n <= far.multiplied(m as u64).rounded_down() {
-            Some(n)
-        } else {
-            None
-        },
-        None => Some(n),
-    }
+    let m = 1 << exponent;
+    let n = span.least_over(m)?;
+    // The cast is proved to lose nothing, so `try_from` would only test again.
+    (n <= u64::from(VALUE_LIMIT)).then(|| Fraction {
+        numerator: span.side().signed(n) as i32,
+        denominator: m,
+    })
 }

@@ -6,9 +6,9 @@ mod dyadic;
 mod edge;
 mod naming;
 mod ratio;
+mod side;
 mod simplest;
 mod span;
-mod spanning;
 mod worked;
 
 pub use dyadic::Dyadic;

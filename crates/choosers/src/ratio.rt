@@ -1,9 +1,11 @@
 // Fractions that are not negative.
-ghost use Rattle.std.specs.Prelude.{◌≡◌, ◌+◌, ◌-◌, ◌*◌, ◌/◌, ◌^◌, ◌<◌, ◌≤◌, ◌&&◌, nat_le};
+ghost use Rattle.std.specs.Prelude.{◌≡◌, ◌+◌, ◌-◌, ◌*◌, ◌^◌, ◌<◌, ◌≤◌, ◌&&◌, nat_le};
 ghost use Rattle.rows.specs.Rows.{value_limit};
 
+use intervals::Bound;
 use rows::VALUE_LIMIT;
 
+// What is under the stroke may be 0, as the walk between two fractions begins with 1/0: so `rounded_up` alone asks for more.
 #[derive(Clone, Copy)]
 pub(crate) struct Ratio {
     pub(crate) over: u64,
@@ -11,19 +13,25 @@ pub(crate) struct Ratio {
 }
 
 impl Ratio {
+    ghost use Rattle.choosers.specs.Spans.{magnitude_of};
+
+    // An end by its magnitude.
+    pub(crate) fn magnitude(end: Bound) -> Ratio
+        ensures { result ≡ magnitude_of end }
+    {
+        Ratio {
+            over: end.numerator().unsigned_abs(),
+            under: end.denominator(),
+        }
+    }
+
+    #[tactic(auto, using(crate::proofs::Turning::rounded_up))]
     pub(crate) fn rounded_up(self) -> u64
         requires { 1 ≤ self.under }
         ensures enough { self.over ≤ result * self.under }
         ensures least { result * self.under < self.over + self.under }
     {
         self.over.div_ceil(self.under)
-    }
-
-    pub(crate) fn rounded_down(self) -> u64
-        requires { 1 ≤ self.under }
-        ensures { result ≡ self.over / self.under }
-    {
-        self.over / self.under
     }
 
     // Whether the fraction is at least the whole number.
@@ -38,18 +46,7 @@ impl Ratio {
     pub(crate) fn is_within_limit(self) -> bool
         ensures { result ≡ (nat_le self.over value_limit && nat_le self.under value_limit) }
     {
-        self.over <= VALUE_LIMIT as u64 && self.under <= VALUE_LIMIT as u64
-    }
-
-    // Part by part: the same fraction.
-    pub(crate) fn times(self, factor: u64) -> Ratio
-        requires { (self.over * factor < 2 ^ 64) × (self.under * factor < 2 ^ 64) }
-        ensures { result ≡ record { over = self.over * factor; under = self.under * factor } }
-    {
-        Ratio {
-            over: self.over * factor,
-            under: self.under * factor,
-        }
+        self.over <= u64::from(VALUE_LIMIT) && self.under <= u64::from(VALUE_LIMIT)
     }
 
     // The fraction times a whole number.
@@ -63,14 +60,15 @@ impl Ratio {
         }
     }
 
-    // Part by part: not the sum of two fractions.
-    pub(crate) fn plus(self, other: Ratio) -> Ratio
-        requires { (self.over + other.over < 2 ^ 64) × (self.under + other.under < 2 ^ 64) }
-        ensures { result ≡ record { over = self.over + other.over; under = self.under + other.under } }
+    // Part by part, factor times this one and the other once: not a sum of fractions.
+    pub(crate) fn mul_add(self, factor: u64, other: Ratio) -> Ratio
+        requires over_fits { self.over * factor + other.over < 2 ^ 64 }
+        requires under_fits { self.under * factor + other.under < 2 ^ 64 }
+        ensures { result ≡ record { over = self.over * factor + other.over; under = self.under * factor + other.under } }
     {
         Ratio {
-            over: self.over + other.over,
-            under: self.under + other.under,
+            over: self.over * factor + other.over,
+            under: self.under * factor + other.under,
         }
     }
 

@@ -3,9 +3,8 @@ ghost use Rattle.std.specs.Prelude.{◌≡◌};
 ghost use Rattle.choosers.specs.Simplest.{simplest_of, NamesSimplest};
 ghost use Rattle.choosers.specs.SimplestLaw.{simplest_keeps};
 
-use crate::between::least_of;
-use crate::naming::{ZERO, if_short, on_side};
-use crate::spanning::seen;
+use crate::naming::{ZERO, if_short};
+use crate::span::Span;
 use intervals::{Chooser, Fraction, Interval};
 
 // Names the fraction of least denominator in the interval, and among those the one of least numerator in magnitude, if it is short.
@@ -17,6 +16,7 @@ impl Chooser for Simplest {
 
     ghost keeps = { λ c. simplest_keeps };
 
+    #[tactic(auto, using(crate::proofs::SimplestFound::names_simplest))]
     fn choose(&mut self, interval: Interval) -> Option<Fraction>
         ensures is { result ≡ simplest_of interval }
         ensures simplest { NamesSimplest interval result }
@@ -25,15 +25,13 @@ impl Chooser for Simplest {
     }
 }
 
+#[tactic(auto, using(crate::proofs::SimplestFound::least_facts))]
 fn simplest_in(interval: Interval) -> Option<Fraction>
-    ensures is { result ≡ simplest_of interval }
-    ensures simplest { NamesSimplest interval result }
+    ensures { result ≡ simplest_of interval }
 {
-    match seen(interval) {
-        Some(span) => match least_of(span.near, span.far) {
-            Some(least) => if_short(on_side(span.negative, least.over), least.under),
-            None => None,
-        },
-        None => Some(ZERO),
-    }
+    let Some(span) = Span::of(interval) else {
+        return Some(ZERO);
+    };
+    let least = span.least()?;
+    if_short(span.side().signed(least.over), least.under)
 }

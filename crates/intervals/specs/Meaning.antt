@@ -1,6 +1,6 @@
 -- What a chooser may name at an interval.
-use Rattle.std.specs.Prelude.{◌≡◌, ℕ, ◌*◌, Bool, true, ◌&&◌, pos, ◌*ℤ◌, Some, None, Option, ◌==◌, ◌≢◌, int_le, nat_le, unsigned_abs}
-use Rattle.std.specs.Option.{option_or}
+use Rattle.std.specs.Prelude.{◌≡◌, ℕ, ◌*◌, Bool, true, ◌&&◌, pos, ◌*ℤ◌, Option, ◌==◌, ◌≢◌, int_le, nat_le, unsigned_abs}
+use Rattle.std.specs.Option.{option_or, option_map_or, MatchOption, IfSome}
 use Rattle.arith.specs.Gcd.{gcd_of}
 use Rattle.rows.specs.Rows.{value_limit}
 use Rattle.intervals.specs.Ends.{Parts}
@@ -23,12 +23,10 @@ at_least scale e f = int_le (f.numerator *ℤ pos (e.divisor * scale)) (e.numera
 
 -- an end that is absent bounds nothing
 abbrev pub from_lower : ℕ → Option End → Fraction → Bool
-from_lower scale None f = true
-from_lower scale (Some e) f = at_most scale e f
+from_lower scale lower f = option_map_or (λ e. at_most scale e f) lower true
 
 abbrev pub to_upper : ℕ → Option End → Fraction → Bool
-to_upper scale None f = true
-to_upper scale (Some e) f = at_least scale e f
+to_upper scale upper f = option_map_or (λ e. at_least scale e f) upper true
 
 -- the fraction lies in the interval, ends included
 abbrev pub inside : Interval → Fraction → Bool
@@ -41,10 +39,13 @@ parts_of i = record { scale = i.scale; lower = i.lower; upper = i.upper }
 abbrev pub Rule : Type 0
 Rule = Interval → Option Fraction
 
+-- a short fraction in the interval
+abbrev pub MayName : Interval → Fraction → Type 0
+MayName i f = (is_short f ≡ true) × (inside i f ≡ true)
+
 -- what may be named: a short fraction in the interval, and nothing only where there is none
 abbrev pub Named : Interval → Option Fraction → Type 0
-Named i (Some f) = (is_short f ≡ true) × (inside i f ≡ true)
-Named i None = (f : Fraction) → is_short f ≡ true → inside i f ≢ true
+Named i named = MatchOption named ((f : Fraction) → is_short f ≡ true → inside i f ≢ true) (MayName i)
 
 -- the meaning that every chooser keeps
 abbrev pub Keeps : Rule → Type 0
@@ -56,5 +57,4 @@ layered own below i = option_or (own i) (below i)
 
 -- what a layer may name itself: a short fraction in the interval, or nothing
 abbrev pub Offered : Interval → Option Fraction → Type 0
-Offered i (Some f) = (is_short f ≡ true) × (inside i f ≡ true)
-Offered i None = Unit {0}
+Offered i named = IfSome named (MayName i)

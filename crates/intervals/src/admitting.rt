@@ -1,11 +1,9 @@
 // Which fractions may be named at an interval.
-ghost use Rattle.std.specs.Prelude.{◌≡◌, ◌*◌, true, ◌&&◌, pos, ◌*ℤ◌, Some};
-ghost use Rattle.intervals.specs.Ends.{is_scale, is_end};
-ghost use Rattle.intervals.specs.Meaning.{is_short, at_most, at_least, inside};
+ghost use Rattle.std.specs.Prelude.{◌≡◌, ◌&&◌, IsTrue};
+ghost use Rattle.intervals.specs.Meaning.{is_short, inside};
 
 use crate::fraction::Fraction;
-use crate::interval::{End, Interval};
-use crate::products::product;
+use crate::interval::Interval;
 use arith::gcd;
 use rows::VALUE_LIMIT;
 
@@ -16,8 +14,8 @@ impl Fraction {
     {
         let over = self.numerator.unsigned_abs();
         let under = self.denominator;
-        let within = over <= VALUE_LIMIT && 1 <= under && under <= VALUE_LIMIT;
-        within && gcd(over as u64, under as u64) == 1
+        let within = over <= VALUE_LIMIT && (1..=VALUE_LIMIT).contains(&under);
+        within && gcd(u64::from(over), u64::from(under)) == 1
     }
 }
 
@@ -29,51 +27,16 @@ impl Interval {
         fraction.is_short() && self.holds(fraction)
     }
 
-    // The comparisons, which the limits of both keep within 2^59.
+    // By comparisons of the ends that there are: one that is absent bounds nothing.
+    // Here and in `compared` alone a fraction has to be short: fractions stay plain numbers, so that tables and notes can hold any.
+    #[tactic(auto, using(crate::proofs::Orders::compared_tests))]
     fn holds(self, fraction: Fraction) -> bool
-        requires { is_short fraction ≡ true }
+        requires { IsTrue (is_short fraction) }
         ensures { result ≡ inside self fraction }
     {
-        let from_lower = match self.lower() {
-            Some(end) => at_most(self.scale(), end, fraction),
-            None => true,
-        };
-        let to_upper = match self.upper() {
-            Some(end) => at_least(self.scale(), end, fraction),
-            None => true,
-        };
-        from_lower && to_upper
+        let lower = self.lower_bound();
+        let upper = self.upper_bound();
+        lower.is_none_or(|bound| bound.compared(fraction).is_le())
+            && upper.is_none_or(|bound| bound.compared(fraction).is_ge())
     }
-}
-
-// Whether the end is at most the fraction.
-fn at_most(scale: u32, end: End, fraction: Fraction) -> bool
-    requires { (is_scale scale ≡ true) × ((is_end end ≡ true) × (is_short fraction ≡ true)) }
-    ensures { result ≡ at_most scale end fraction }
-{
-    crossed_end(end, fraction) <= crossed_fraction(scale, end, fraction)
-}
-
-// Whether the end is at least the fraction.
-fn at_least(scale: u32, end: End, fraction: Fraction) -> bool
-    requires { (is_scale scale ≡ true) × ((is_end end ≡ true) × (is_short fraction ≡ true)) }
-    ensures { result ≡ at_least scale end fraction }
-{
-    crossed_fraction(scale, end, fraction) <= crossed_end(end, fraction)
-}
-
-// The end's numerator times the fraction's denominator.
-fn crossed_end(end: End, fraction: Fraction) -> i64
-    requires { (is_end end ≡ true) × (is_short fraction ≡ true) }
-    ensures { result ≡ end.numerator *ℤ pos fraction.denominator }
-{
-    product(end.numerator, fraction.denominator as u64)
-}
-
-// The fraction's numerator times the end's divisor and scale.
-fn crossed_fraction(scale: u32, end: End, fraction: Fraction) -> i64
-    requires { (is_scale scale ≡ true) × ((is_end end ≡ true) × (is_short fraction ≡ true)) }
-    ensures { result ≡ fraction.numerator *ℤ pos (end.divisor * scale) }
-{
-    product(fraction.numerator as i64, end.divisor as u64 * scale as u64)
 }

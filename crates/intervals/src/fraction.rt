@@ -15,8 +15,6 @@ impl fmt::Display for Fraction {
     ghost output = { λ f. Some (fraction_text f) };
 
     fn fmt<W: fmt::Write>(&self, f: &mut fmt::Formatter<W>) -> fmt::Result {
-        let numerator = self.numerator;
-        let denominator = self.denominator;
-        write!(f, "{numerator}/{denominator}")
+        write!(f, "{}/{}", self.numerator, self.denominator)
     }
 }

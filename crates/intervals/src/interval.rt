@@ -12,7 +12,7 @@ pub struct End {
 // What lies from the lower to the upper end, both included; an end that is absent bounds nothing.
 // The rules: a scale from 1 to 2^18, numerators within 2^41, divisors from 1 to 2^20, not both ends absent, the lower never above the upper.
 // So two ends are compared by products within 2^61, and an end with a short fraction by products within 2^59.
-#[derive(Clone, Copy, Debug)]
+#[derive(Clone, Copy, PartialEq, Eq, Debug)]
 pub struct Interval {
     pub(crate) scale: u32,
     pub(crate) lower: Option<End>,

@@ -2,12 +2,16 @@
 #![tactic(auto)]
 
 mod admitting;
+mod bound;
 mod building;
 mod chooser;
 mod fraction;
 mod interval;
+mod layer;
 mod products;
 
+pub use bound::Bound;
 pub use chooser::Chooser;
 pub use fraction::Fraction;
 pub use interval::{End, Interval};
+pub use layer::named_or_below;

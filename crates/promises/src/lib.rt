@@ -12,6 +12,7 @@ use writer::{Records, Refusal};
 
 // Writes the image of the records into the front of the buffer, reads it there, and answers whether it is accepted.
 // Of a derivation it always is, and it is shown as the same records.
+// The answer is a yes or no and not the accepted image: that would borrow the buffer, and then no clause could say what the buffer holds.
 pub fn write_and_read(records: &Records<'_>, buffer: &mut [u8]) -> Result<bool, Refusal>
     ensures is { result ≡ back_of (derivation_of records.now) buffer.old }
     ensures holds { buffer.new ≡ held_after (write_of (derivation_of records.now) buffer.old) (derivation_of records.now) buffer.old }

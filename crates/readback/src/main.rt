@@ -24,6 +24,7 @@ fn line(heap: Global, image: &[u8]) -> Result<String, AllocError>
 fn main(rt: HostRuntime) -> io::Result<()> {
     let mut image = Vec::new(rt.alloc());
     // One byte more than the largest image: what is longer is refused for its length, and not held whole.
+    // std has no From<usize> for u64.
     let mut input = rt.stdin().take(layout::LARGEST_IMAGE as u64 + 1);
     input.read_to_end(&mut image)?;
     rt.println(line(rt.alloc(), &image)?)

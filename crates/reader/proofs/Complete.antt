@@ -1,7 +1,8 @@
 -- The image of a derivation is accepted.
-use Rattle.std.proofs.Common.{◌≡◌, ℕ, ◌+◌, ◌-◌, ◌*◌, ◌%◌, ◌<◌, ◌≤◌, true, eqb, leb, List, [], length, get_or, take, drop, Ok, sym, ap, ◌∙◌, subst, arith}
+use Rattle.std.proofs.Common.{◌≡◌, ℕ, ◌+◌, ◌-◌, ◌*◌, ◌<◌, ◌≤◌, true, eqb, List, [], length, get_or, take, drop, Ok, sym, ap, ◌∙◌, subst, arith}
 use Rattle.std.specs.List.{flat_map}
-use Rattle.std.proofs.lemmas.Bool.{eq-eqb, le-leb}
+use Rattle.std.proofs.lemmas.Bool.{eq-eqb}
+use Rattle.std.proofs.lemmas.Bool.Decides.{nat_tests}
 use Rattle.rows.specs.Bytes.{le16, le32}
 use Rattle.rows.specs.Derivations.{Record, input, step, row_in, row_at, Stands, Derivation, IsDerivation}
 use Rattle.rows.specs.Image.{block_of, record_of, numbers_in, count_in, blocks_for, image_size, record_bytes, header_bytes, records_block, image_of}
@@ -15,20 +16,10 @@ use Rattle.reader.proofs.Records.{row_shown, yes_input, yes_step}
 use Rattle.reader.proofs.Yes.{RecordYes, BlockYes, yes_all}
 
 is_length_lem : (t : ℕ) → 1 ≤ t → t ≤ 256 → is_length (image_size t) ≡ true
-is_length_lem t h k =
-    let a : leb 1024 (image_size t) ≡ true = le-leb _ _ (omega arith) in
-    let b : leb (image_size t) 16896 ≡ true = le-leb _ _ (omega arith) in
-    let c : eqb (image_size t % 512) 0 ≡ true = eq-eqb _ _ (omega arith) in
-    rw (a, b, c)
+is_length_lem t h k = grind (arith, nat_tests)
 
 header_right_lem : (block : List ℕ) (size n t : ℕ) → AsHeader block n t → (1 ≤ n) × (n ≤ 8) → (1 ≤ t) × (t ≤ 256) → size ≡ image_size t → header_right block size ≡ true
-header_right_lem block size n t h i k e =
-    let a : leb 1 n ≡ true = le-leb _ _ i.0 in
-    let b : leb n 8 ≡ true = le-leb _ _ i.1 in
-    let c : leb 1 t ≡ true = le-leb _ _ k.0 in
-    let d : leb t 256 ≡ true = le-leb _ _ k.1 in
-    let f : eqb size (image_size t) ≡ true = eq-eqb _ _ e in
-    rw (h.edition, h.unknowns, h.records, a, b, c, d, f)
+header_right_lem block size n t h i k e = rw (h.edition, h.unknowns, h.records) (grind (arith, nat_tests))
 
 block_yes : (block : List ℕ) (number count : ℕ) (held : List ℕ) → AsBlock block number count held → BlockYes block number count (8 + length held)
 block_yes block number count held h =

@@ -1,18 +1,19 @@
 -- Bytes are accepted exactly when they are the image of a derivation, which is then the one that is shown.
-use Rattle.std.proofs.Common.{◌≡◌, ℕ, zero, suc, ◌+◌, ◌<◌, Bool, true, false, cond, List, [], ◌∷◌, ◌++◌, map, length, get_or, Ok, Err, Result, sym, refl, ap, ◌∙◌, subst, arith, w8, Fits}
+use Rattle.std.proofs.Common.{◌≡◌, ℕ, suc, ◌<◌, Bool, true, false, cond, List, [], ◌∷◌, map, filter, length, get_or, Ok, Err, Result, sym, refl, ap, ◌∙◌, subst, arith, w8, Fits}
 use Rattle.std.specs.List.{range_with_len}
-use Rattle.std.proofs.lemmas.List.FromFn.{filter_of_map_range_with_len_more}
+use Rattle.std.proofs.lemmas.List.Sums.{length-filter}
 use Rattle.std.proofs.ByRecursion.{All-from_get_or}
-use Rattle.std.proofs.lemmas.List.{length-append}
 use Rattle.rows.specs.Bytes.{AllBytes}
-use Rattle.rows.specs.Derivations.{Record, is_given, inputs_of, Derivation, IsDerivation}
-use Rattle.rows.specs.Image.{record_of, unknowns_in, records_in, image_of, is_input}
+use Rattle.rows.specs.Derivations.{Record, input, step, is_given, inputs_of, Derivation, IsDerivation}
+use Rattle.rows.specs.Image.{record_of, numbers_in, unknowns_in, records_in, image_of, is_input}
+use Rattle.rows.specs.Origins.{record_with}
 use Rattle.rows.specs.Questions.{answered}
 use Rattle.rows.proofs.Consequences.{none_fits}
 use Rattle.rows.proofs.Images.{derivation_shown, all_image, shown_back}
-use Rattle.rows.proofs.RecordBytes.{record_shown}
+use Rattle.rows.proofs.RecordBytes.{record_shown, Held, input_forth, step_forth}
 use Rattle.reader.specs.Exactness.{Shows, shown_of, AcceptsExactlyImages}
 use Rattle.reader.specs.Reading.{Reading, image_asked, inputs_below, reading_of, read_of}
+use Rattle.reader.specs.Shown.{bytes_in, origin_in}
 use Rattle.reader.specs.declared.refusal.Refusal.{Refusal}
 use Rattle.reader.proofs.Complete.{image_accepted}
 use Rattle.reader.proofs.Headers.{header_sized, shown_is}
@@ -22,18 +23,21 @@ use Rattle.reader.proofs.Yes.{AllYes, all_yes}
 
 -- as many inputs are counted as the derivation has
 inputs_shown : (bytes : List ℕ) (t : ℕ) → inputs_below bytes t ≡ length (inputs_of (map (λ r. record_shown (record_of bytes r)) (range_with_len 0 t)))
-inputs_shown bytes zero = refl
-inputs_shown bytes (suc t) =
-    let shown : ℕ → Record = λ r. record_shown (record_of bytes r) in
-    let s : suc t ≡ t + 1 = omega arith in
-    let more : inputs_of (map shown (range_with_len 0 (suc t))) ≡ inputs_of (map shown (range_with_len 0 t)) ++ cond (is_given (shown t)) (shown t ∷ []) [] =
-    ap (λ n. inputs_of (map shown (range_with_len 0 n))) s ∙ filter_of_map_range_with_len_more is_given shown 0 t t (omega arith) in
-    one_more (is_input (record_of bytes t)) (is_given (shown t)) (given_shown (record_of bytes t)) (shown t) (inputs_of (map shown (range_with_len 0 t))) (inputs_below bytes t) (inputs_shown bytes t)
-    ∙ sym (ap length more)
+inputs_shown bytes t = sym (same_count (range_with_len 0 t) ∙ length-filter input_at (range_with_len 0 t))
   where
-    one_more : (b c : Bool) → c ≡ b → (x : Record) (xs : List Record) (n : ℕ) → n ≡ length xs → ◌≡◌ {A = ℕ} (n + cond b 1 0) (length (xs ++ cond c (x ∷ []) []))
-    one_more true c e x xs n h = rw (e, length-append) (omega arith)
-    one_more false c e x xs n h = rw (e, length-append) (omega arith)
+    shown : ℕ → Record
+    shown r = record_shown (record_of bytes r)
+
+    input_at : ℕ → Bool
+    input_at r = is_input (record_of bytes r)
+
+    one_more : (b c : Bool) → c ≡ b → (x : Record) (y : ℕ) (xs : List Record) (ys : List ℕ) → length xs ≡ length ys → length (cond c (x ∷ xs) xs) ≡ length (cond b (y ∷ ys) ys)
+    one_more true c e x y xs ys h = rw e (ap suc h)
+    one_more false c e x y xs ys h = rw e h
+
+    same_count : (rs : List ℕ) → length (filter is_given (map shown rs)) ≡ length (filter input_at rs)
+    same_count [] = refl
+    same_count (r ∷ rs) = one_more (input_at r) (is_given (shown r)) (given_shown (record_of bytes r)) (shown r) r _ _ (same_count rs)
 
 shows : (bytes : List ℕ) → AllBytes bytes → AllYes bytes (unknowns_in bytes) (records_in bytes) → Shows (reading_of bytes) (derivation_shown bytes)
 shows bytes fit h = record {
@@ -77,3 +81,8 @@ reads_back d h = go (read_of (image_of d)) refl (exact (image_of d) (all_image d
     go : (o : Result Reading Refusal) → read_of (image_of d) ≡ o → AcceptsExactlyImages (image_of d) o → (reading : Reading) × (read_of (image_of d) ≡ Ok reading) × Shows reading d
     go (Ok reading) e x = (reading, e, subst (Shows reading) (sym (x.1.only d h refl)) x.1.shows)
     go (Err refusal) e x = absurd (x d h refl)
+
+-- the origin and the row of a record, taken from what is shown of it, are its own
+pub shown_parts : (rec : Record) → Held rec → record_with (origin_in (shown_of rec)) (record { numbers = numbers_in (bytes_in (shown_of rec)) }) ≡ rec
+shown_parts (input tag row) h = let f = input_forth tag row h in rw (f.its_tag, f.numbers)
+shown_parts (step first second u v row) h = let f = step_forth first second u v row h in rw (f.its_first, f.its_second, f.its_u, f.its_v, f.numbers)

@@ -1,10 +1,9 @@
 -- What the header's questions make sure of, and what follows for the records.
-use Rattle.std.proofs.Common.{◌≡◌, ℕ, ◌+◌, ◌/◌, ◌<◌, ◌≤◌, Bool, true, false, cond, ltb, List, length, IfOk, Ok, Result, sym, refl, subst, arith}
+use Rattle.std.proofs.Common.{◌≡◌, ℕ, ◌+◌, ◌/◌, ◌<◌, ◌≤◌, true, cond, ltb, List, length, Ok, arith}
 use Rattle.std.proofs.lemmas.Bool.{lt-ltb}
 use Rattle.std.proofs.lemmas.Bool.Decides.{nat_tests}
 use Rattle.rows.specs.Bytes.{le16}
 use Rattle.rows.specs.Image.{block_of, record_of, is_input, records_in, image_size}
-use Rattle.rows.specs.Questions.{asked}
 use Rattle.reader.specs.Reading.{header_right, Sized, reading_of}
 use Rattle.reader.specs.Shown.{input, step, shown_at}
 
@@ -27,19 +26,12 @@ pub header_sized : (bytes : List ℕ) → header_right (block_of bytes 0) (lengt
 header_sized bytes h =
     let header = header_yes (block_of bytes 0) (length bytes) h in
     let long : length bytes ≡ image_size (records_in bytes) = header.its_size in
-    (header.records.0, header.records.1, omega (arith, long))
-
-pub asked_sized : {E : Type 0} (bytes : List ℕ) (e : E) (r : Result (Unit {0}) E) → r ≡ asked (header_right (block_of bytes 0) (length bytes)) e → IfOk r (λ _. Sized bytes)
-asked_sized {E} bytes e r p = subst (λ (x : Result (Unit {0}) E). IfOk x (λ _. Sized bytes)) (sym p) (on (header_right (block_of bytes 0) (length bytes)) refl)
-  where
-    on : (b : Bool) → header_right (block_of bytes 0) (length bytes) ≡ b → IfOk (asked b e) (λ _. Sized bytes)
-    on true h = header_sized bytes h
-    on false h = tt
+    record { some = header.records.0; few = header.records.1; reached = omega (arith, long) }
 
 -- an image that reaches as far as its records shows each of them
 pub shown_is : (bytes : List ℕ) → Sized bytes → (r : ℕ) → r < records_in bytes →
     shown_at (reading_of bytes) r ≡ cond (is_input (record_of bytes r)) (Ok (input (record_of bytes r))) (Ok (step (record_of bytes r)))
 shown_is bytes h r l =
     let here : ltb r (records_in bytes) ≡ true = lt-ltb r (records_in bytes) l in
-    let reached : ltb (r / 8 + 1) (length bytes / 512) ≡ true = lt-ltb (r / 8 + 1) (length bytes / 512) (omega (arith, h.1, h.2)) in
+    let reached : ltb (r / 8 + 1) (length bytes / 512) ≡ true = lt-ltb (r / 8 + 1) (length bytes / 512) (omega (arith, h.few, h.reached)) in
     rw (here, reached)

@@ -1,9 +1,9 @@
 pub mod Complete
 pub mod Exact
 pub mod Headers
+pub mod InTurn
 pub mod Numbers
 pub mod Records
 pub mod Sound
 pub mod Worked
 pub mod Yes
-pub mod Zeros

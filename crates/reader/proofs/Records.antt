@@ -1,12 +1,13 @@
 -- What the answers about a record say of the record that its bytes show.
-use Rattle.std.proofs.Common.{◌≡◌, ℕ, ◌<◌, Bool, true, false, cond, ◌&&◌, ◌||◌, eqb, List, length, ℤ, Some, None, Ok, Option, Result, sym, refl, ap, ◌∙◌, subst, arith}
-use Rattle.std.proofs.lemmas.Bool.{eqb-true, eq-eqb, and_parts, or_left, or_right, true≢false}
-use Rattle.rows.specs.Bytes.{AllBytes, zeros_in}
+use Rattle.std.proofs.Common.{◌≡◌, ℕ, ◌<◌, Bool, true, false, cond, ◌||◌, List, length, ℤ, Some, Ok, Result, sym, refl, ap, ◌∙◌, subst, arith}
+use Rattle.std.proofs.lemmas.Bool.{eq-eqb, or_left, or_right}
+use Rattle.std.proofs.lemmas.Bool.Decides.{nat_tests}
+use Rattle.rows.specs.Bytes.{AllBytes}
 use Rattle.rows.specs.Derivations.{Record, is_given, row_in, row_at, are_parents, Stands}
-use Rattle.rows.specs.Image.{record_of, kind_in, first_in, second_in, u_in, v_in, numbers_in, is_input, record_bytes}
-use Rattle.rows.specs.Rows.{is_row, combination_of, same_row}
+use Rattle.rows.specs.Image.{record_of, first_in, second_in, u_in, v_in, numbers_in, is_input, record_bytes}
+use Rattle.rows.specs.Rows.{is_row, combination_of}
 use Rattle.rows.proofs.Fields.{le16_lt}
-use Rattle.rows.specs.SameNumbers.{same_back, same_self}
+use Rattle.rows.proofs.Same.{same_row_is}
 use Rattle.rows.proofs.RecordBytes.{record_shown, shown_input, shown_step, AsInput, AsStep, input_back, step_back}
 use Rattle.rows.proofs.Standing.{parents}
 use Rattle.reader.specs.Exactness.{shown_of}
@@ -17,37 +18,31 @@ use Rattle.reader.specs.declared.refusal.Refusal.{Refusal}
 use Rattle.reader.proofs.Yes.{RecordYes}
 
 pub row_shown : (rec : List ℕ) → row_in (record_shown rec) ≡ numbers_in rec
-row_shown rec = go (is_input rec) refl
-  where
-    go : (b : Bool) → is_input rec ≡ b → row_in (record_shown rec) ≡ numbers_in rec
-    go true h = ap row_in (shown_input rec h)
-    go false h = ap row_in (shown_step rec h)
+unfolding record_shown
+row_shown rec = grind (arith, nat_tests)
 
 -- kind and unassigned bytes
 as_input : (rec : List ℕ) → kind_right rec ≡ true → is_input rec ≡ true → AsInput rec (first_in rec) (numbers_in rec)
-as_input rec h k =
-    let a = and_parts ((is_input rec && zeros_in rec 6 16) || eqb (kind_in rec) 2) (zeros_in rec 1 4 && zeros_in rec 52 60) h in
-    let z = and_parts (zeros_in rec 1 4) (zeros_in rec 52 60) a.1 in
-    let one : kind_in rec ≡ 1 = eqb-true (kind_in rec) 1 k in
-    let two : eqb (kind_in rec) 2 ≡ false = ap (λ x. eqb x 2) one in
-    let tagged : zeros_in rec 6 16 ≡ true = rest (is_input rec) (zeros_in rec 6 16) (eqb (kind_in rec) 2) k two a.0 in
-    record { kind = one; its_tag = refl; numbers = refl; after_kind = z.0; after_tag = tagged; after_row = z.1 }
-  where
-    rest : (x y z : Bool) → x ≡ true → z ≡ false → ((x && y) || z) ≡ true → y ≡ true
-    rest true true z p q h = refl
-    rest true false z p q h = sym q ∙ h
-    rest false y z p q h = absurd (true≢false (sym p))
+as_input rec h k = record {
+  kind = grind (arith, nat_tests);
+  its_tag = refl;
+  numbers = refl;
+  after_kind = grind (arith, nat_tests);
+  after_tag = grind (arith, nat_tests);
+  after_row = grind (arith, nat_tests);
+}
 
 as_step : (rec : List ℕ) → kind_right rec ≡ true → is_input rec ≡ false → AsStep rec (first_in rec) (second_in rec) (u_in rec) (v_in rec) (numbers_in rec)
-as_step rec h k =
-    let a = and_parts ((is_input rec && zeros_in rec 6 16) || eqb (kind_in rec) 2) (zeros_in rec 1 4 && zeros_in rec 52 60) h in
-    let z = and_parts (zeros_in rec 1 4) (zeros_in rec 52 60) a.1 in
-    let two : eqb (kind_in rec) 2 ≡ true = rest (is_input rec) (zeros_in rec 6 16) (eqb (kind_in rec) 2) k a.0 in
-    record { kind = eqb-true (kind_in rec) 2 two; its_first = refl; its_second = refl; its_u = refl; its_v = refl; numbers = refl; after_kind = z.0; after_row = z.1 }
-  where
-    rest : (x y z : Bool) → x ≡ false → ((x && y) || z) ≡ true → z ≡ true
-    rest false y z p h = h
-    rest true y z p h = absurd (true≢false p)
+as_step rec h k = record {
+  kind = grind (arith, nat_tests);
+  its_first = refl;
+  its_second = refl;
+  its_u = refl;
+  its_v = refl;
+  numbers = refl;
+  after_kind = grind (arith, nat_tests);
+  after_row = grind (arith, nat_tests);
+}
 
 -- the bytes are those of the record that they show
 pub bytes_shown : (rec : List ℕ) → length rec ≡ 60 → AllBytes rec → kind_right rec ≡ true → record_bytes (record_shown rec) ≡ rec
@@ -59,30 +54,15 @@ bytes_shown rec l b h = go (is_input rec) refl
 
 -- and they are shown as that record
 pub kind_shown : (rec : List ℕ) → record_bytes (record_shown rec) ≡ rec → ◌≡◌ {A = Result Shown Refusal} (cond (is_input rec) (Ok (shown.input rec)) (Ok (shown.step rec))) (Ok (shown_of (record_shown rec)))
-kind_shown rec e = go (is_input rec) refl
-  where
-    go : (x : Bool) → is_input rec ≡ x → ◌≡◌ {A = Result Shown Refusal} (cond (is_input rec) (Ok (shown.input rec)) (Ok (shown.step rec))) (Ok (shown_of (record_shown rec)))
-    go true k = rw (k, shown_input rec k) (ap (λ x. Ok (shown.input x)) (sym (sym (ap record_bytes (shown_input rec k)) ∙ e)))
-    go false k = rw (k, shown_step rec k) (ap (λ x. Ok (shown.step x)) (sym (sym (ap record_bytes (shown_step rec k)) ∙ e)))
+unfolding record_shown
+kind_shown rec e = grind (arith, nat_tests)
 
 pub given_shown : (rec : List ℕ) → is_given (record_shown rec) ≡ is_input rec
-given_shown rec = go (is_input rec) refl
-  where
-    go : (x : Bool) → is_input rec ≡ x → is_given (record_shown rec) ≡ is_input rec
-    go true k = ap is_given (shown_input rec k) ∙ sym k
-    go false k = ap is_given (shown_step rec k) ∙ sym k
-
--- a combination that is the row
-same_row_lem : (o : Option (List ℤ)) (row : List ℤ) → same_row o row ≡ true → o ≡ Some row
-same_row_lem (Some made) row h = ap Some (same_back made row h)
-same_row_lem None row h = absurd (true≢false (sym h))
-
-row_same : (o : Option (List ℤ)) (row : List ℤ) → o ≡ Some row → same_row o row ≡ true
-row_same o row e = rw e (same_self row)
+unfolding record_shown
+given_shown rec = grind (arith, nat_tests)
 
 or_rest : (x y : Bool) → x ≡ false → (x || y) ≡ true → y ≡ true
-or_rest false y p h = h
-or_rest true y p h = absurd (true≢false p)
+or_rest x y p h = grind (arith, nat_tests)
 
 -- record r stands right among records whose earlier rows are those of the image
 pub stands_shown : (bytes : List ℕ) (n r : ℕ) (records : List Record) → length (record_of bytes r) ≡ 60 → AllBytes (record_of bytes r) → RecordYes bytes n r
@@ -96,7 +76,7 @@ stands_shown bytes n r records l b h rows = go (is_input rec) refl
     go true k = subst (Stands n records r) (sym (shown_input rec k)) (h.row, le16_lt rec 4 (omega arith) b)
     go false k =
         let p : are_parents r (first_in rec) (second_in rec) (u_in rec) (v_in rec) ≡ true = or_rest (is_input rec) _ k h.parents in
-        let c = same_row_lem _ (numbers_in rec) (or_rest (is_input rec) _ k h.combination) in
+        let c = (same_row_is _ (numbers_in rec)).0 (or_rest (is_input rec) _ k h.combination) in
         let e = parents r (first_in rec) (second_in rec) (u_in rec) (v_in rec) p in
         let first = rows (first_in rec) e.first_earlier in
         let second = rows (second_in rec) e.second_earlier in
@@ -131,5 +111,5 @@ yes_step bytes n r first second u v row h i p c =
       kind = kind_step rec first second u v row h;
       row = rw h.numbers i;
       parents = or_right (is_input rec) _ q;
-      combination = or_right (is_input rec) _ (row_same _ (numbers_in rec) m);
+      combination = or_right (is_input rec) _ ((same_row_is _ (numbers_in rec)).1 m);
     }

@@ -1,11 +1,12 @@
 -- Bytes that are accepted are the image of the derivation that they show.
-use Rattle.std.proofs.Common.{◌≡◌, ℕ, ◌+◌, ◌-◌, ◌*◌, ◌/◌, ◌<◌, ◌≤◌, ◌&&◌, eqb, List, [], ◌++◌, length, get_or, take, drop, sym, refl, ap, ◌∙◌, subst, arith}
+use Rattle.std.proofs.Common.{◌≡◌, ℕ, ◌+◌, ◌-◌, ◌*◌, ◌/◌, ◌<◌, ◌≤◌, List, [], ◌++◌, length, get_or, take, drop, sym, refl, ap, ◌∙◌, subst, arith}
 use Rattle.std.specs.List.{range_with_len, flat_map}
 use Rattle.std.proofs.lemmas.List.FromFn.{length-map-range_with_len, get_or-map-range_with_len}
 use Rattle.std.proofs.ByRecursion.{All-take, All-drop, All-from_get_or}
 use Rattle.std.proofs.lemmas.List.{length-take, length-drop}
-use Rattle.std.proofs.lemmas.Bool.{eqb-true, and_parts}
-use Rattle.rows.specs.Bytes.{AllBytes, le16, le32, zeros_in}
+use Rattle.std.proofs.lemmas.Bool.{eqb-true}
+use Rattle.std.proofs.lemmas.Bool.Decides.{nat_tests}
+use Rattle.rows.specs.Bytes.{AllBytes}
 use Rattle.rows.specs.Derivations.{Record, input, row_in, row_at, Stands, IsDerivation}
 use Rattle.rows.specs.Image.{block_of, record_of, numbers_in, unknowns_in, records_in, count_in, blocks_for, image_size, record_bytes, header_bytes, records_block, image_of}
 use Rattle.rows.proofs.BlockBytes.{AsBlock, block_back, header_back, header_held}
@@ -20,11 +21,14 @@ use Rattle.rows.proofs.Standing.{row_nine}
 
 -- a block whose seal and frame are right, and which holds these bytes
 as_block : (block : List ℕ) (number count : ℕ) (held : List ℕ) → BlockYes block number count (8 + length held) → held ≡ take (length held) (drop 8 block) → AsBlock block number count held
-as_block block number count held h e =
-    let a = and_parts (eqb (le32 block 0) number) (eqb (le16 block 4) count && (zeros_in block 6 8 && zeros_in block (8 + length held) 508)) h.frame in
-    let b = and_parts (eqb (le16 block 4) count) (zeros_in block 6 8 && zeros_in block (8 + length held) 508) a.1 in
-    let c = and_parts (zeros_in block 6 8) (zeros_in block (8 + length held) 508) b.1 in
-    record { seal = eqb-true _ _ h.seal; its_number = eqb-true _ _ a.0; its_count = eqb-true _ _ b.0; before = c.0; after = c.1; its_held = e }
+as_block block number count held h e = record {
+  seal = eqb-true _ _ h.seal;
+  its_number = grind (arith, nat_tests, h.frame);
+  its_count = grind (arith, nat_tests, h.frame);
+  before = grind (arith, nat_tests, h.frame);
+  after = grind (arith, nat_tests, h.frame);
+  its_held = e;
+}
 
 module _ (bytes : List ℕ) where
   pub length_shown : length (derivation_shown bytes).records ≡ records_in bytes

@@ -2,7 +2,7 @@
 use Rattle.std.proofs.Common.{◌≡◌, ℕ, zero, suc, ◌<◌, List, [], ◌∷◌, length, get_or, ℤ, pos, negsuc, Ok, Err, refl, arith}
 use Rattle.arith.specs.Dot.{combine}
 use Rattle.arith.specs.Gcd.{gcd_by, gcd_of}
-use Rattle.arith.specs.Lowest.{within_all, gcd_from, divided, lowest_of}
+use Rattle.arith.specs.Lowest.{divided, lowest_of}
 use Rattle.rows.specs.Derivations.{input, step, Stands, Derivation, IsDerivation}
 use Rattle.rows.specs.Image.{numbers_in, row_bytes, record_bytes, block_body, sealed, header_bytes, records_block, image_of}
 use Rattle.rows.specs.Rows.{last_with, last_place, level_of, in_limit, combination_of}
@@ -27,7 +27,7 @@ shots v = record {
 
 -- it is a derivation
 stands : (r : ℕ) → r < 7 → Stands 2 (shots 2).records r (get_or (shots 2).records r (input 0 []))
-unfolding shots row last_with last_place level_of in_limit combination_of combine gcd_by gcd_of within_all gcd_from divided lowest_of
+unfolding shots row last_with last_place level_of in_limit combination_of combine gcd_by gcd_of divided lowest_of
 stands zero h = (refl, omega arith)
 stands (suc zero) h = (refl, omega arith)
 stands (suc (suc zero)) h = (refl, omega arith)
@@ -47,9 +47,9 @@ unfolding shots row image_of header_bytes records_block sealed block_body record
 long = refl
 
 accepted : read_of (image_of (shots 2)) ≡ Ok (record { image = image_of (shots 2); records = 7; inputs = 5 })
-unfolding shots row image_of header_bytes records_block sealed block_body record_bytes row_bytes numbers_in block_asked last_with last_place level_of in_limit combination_of combine gcd_by gcd_of within_all gcd_from divided lowest_of
+unfolding shots row image_of header_bytes records_block sealed block_body record_bytes row_bytes numbers_in block_asked last_with last_place level_of in_limit combination_of combine gcd_by gcd_of divided lowest_of
 accepted = refl
 
 refused : read_of (image_of (shots 1)) ≡ Err (Combination 5)
-unfolding shots row image_of header_bytes records_block sealed block_body record_bytes row_bytes numbers_in block_asked last_with last_place level_of in_limit combination_of combine gcd_by gcd_of within_all gcd_from divided lowest_of
+unfolding shots row image_of header_bytes records_block sealed block_body record_bytes row_bytes numbers_in block_asked last_with last_place level_of in_limit combination_of combine gcd_by gcd_of divided lowest_of
 refused = refl

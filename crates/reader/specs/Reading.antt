@@ -1,5 +1,6 @@
 -- What the reader answers for any bytes: the questions in their order, over the fields of the image.
-use Rattle.std.specs.Prelude.{ℕ, zero, suc, ◌+◌, ◌-◌, ◌*◌, ◌%◌, ◌≤◌, Bool, cond, ◌&&◌, ◌||◌, List, length, take, Result, ◌==◌, nat_le}
+use Rattle.std.specs.Prelude.{ℕ, ◌+◌, ◌-◌, ◌*◌, ◌%◌, ◌≤◌, Bool, count_by, ◌&&◌, ◌||◌, List, length, take, Result, ◌==◌, nat_le}
+use Rattle.std.specs.List.{range_with_len}
 use Rattle.rows.specs.Bytes.{le16, le32, zeros_in, seal_of}
 use Rattle.rows.specs.Derivations.{are_parents}
 use Rattle.rows.specs.Image.{block_of, record_of, kind_in, first_in, second_in, u_in, v_in, numbers_in, is_input, unknowns_in, records_in, count_in, blocks_for, image_size}
@@ -44,8 +45,10 @@ combination_right bytes rec =
     || same_row (combination_of (u_in rec) (numbers_in (record_of bytes (first_in rec))) (v_in rec) (numbers_in (record_of bytes (second_in rec)))) (numbers_in rec)
 
 -- what the header's questions make sure of: some records, few enough, and the bytes reach as far as they do
-abbrev pub Sized : List ℕ → Type 0
-Sized bytes = (1 ≤ records_in bytes) × (records_in bytes ≤ 256) × (image_size (records_in bytes) ≤ length bytes)
+pub record Sized (bytes : List ℕ) : Type 0 where
+  pub some : 1 ≤ records_in bytes
+  pub few : records_in bytes ≤ 256
+  pub reached : image_size (records_in bytes) ≤ length bytes
 
 -- the questions of the header, of record r, of block b + 1 apart from its records, and of that block
 abbrev pub header_asked : List ℕ → Result (Unit {0}) Refusal
@@ -79,8 +82,7 @@ image_asked bytes =
 
 -- how many of the first t records are inputs
 abbrev pub inputs_below : List ℕ → ℕ → ℕ
-inputs_below bytes zero = 0
-inputs_below bytes (suc r) = inputs_below bytes r + cond (is_input (record_of bytes r)) 1 0
+inputs_below bytes t = count_by (λ r. is_input (record_of bytes r)) (range_with_len 0 t)
 
 -- an accepted image: its bytes, its count of records and its count of inputs
 pub record Reading : Type 0 where

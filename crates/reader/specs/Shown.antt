@@ -1,6 +1,8 @@
 -- What the answers of the reader show, by value: a reference is what it points to.
 use Rattle.std.specs.Prelude.{ℕ, ◌/◌, cond, ◌&&◌, List, length, Ok, Err, Result, nat_lt}
-use Rattle.rows.specs.Image.{block_with, record_of, is_input}
+use Rattle.rows.specs.Image.{block_with, record_of, first_in, second_in, u_in, v_in, is_input}
+use Rattle.rows.specs.declared.origin.Origin.{Origin}
+use Rattle.rows.specs.declared.origin.Origin.TheVariants.{Input, Step}
 use Rattle.reader.specs.Reading.{Reading}
 use Rattle.reader.specs.declared.accepted.Accepted.{Accepted}
 use Rattle.reader.specs.declared.accepted.Record.{Record}
@@ -19,6 +21,15 @@ viewed (Err e) = Err e
 pub data Shown : Type 0 where
   input : List ℕ → Shown
   step : List ℕ → Shown
+
+-- its bytes, and where its row comes from, as the bytes have it
+abbrev pub bytes_in : Shown → List ℕ
+bytes_in (input rec) = rec
+bytes_in (step rec) = rec
+
+abbrev pub origin_in : Shown → Origin
+origin_in (input rec) = Input (first_in rec)
+origin_in (step rec) = Step (first_in rec) (second_in rec) (u_in rec) (v_in rec)
 
 abbrev pub seen : Record → Shown
 seen (the-record.Input bytes) = input bytes.now

@@ -4,6 +4,7 @@
 mod accepted;
 mod bytes;
 mod fields;
+mod image;
 mod questions;
 mod reading;
 mod refusal;

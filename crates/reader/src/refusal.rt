@@ -4,6 +4,7 @@ ghost use Rattle.reader.specs.Lines.{layer_text, place_text, refused_line};
 ghost use Rattle.reader.specs.Refusals.{number_of, layer_of, block_in, record_in};
 
 use crate::fields::block_with;
+use std::error::Error;
 use std::fmt;
 
 // What a refusal concerns.
@@ -78,11 +79,7 @@ impl Refusal {
             Refusal::Length | Refusal::NoRecord(_) => None,
             Refusal::Header => Some(0),
             Refusal::Seal(b) | Refusal::Frame(b) => Some(*b),
-            Refusal::Kind(r)
-            | Refusal::Row(r)
-            | Refusal::Parents(r)
-            | Refusal::Combination(r)
-            | Refusal::NotFalse(r) => Some(block_with(*r)),
+            _ => self.record().map(block_with),
         }
     }
 
@@ -115,7 +112,7 @@ impl fmt::Display for Layer {
     }
 }
 
-// A number that may not apply, which shows as a dash.
+// A number, or a dash where none applies: std does not show an Option.
 #[derive(Clone, Copy)]
 struct Place(Option<usize>);
 
@@ -141,3 +138,5 @@ impl fmt::Display for Refusal {
         write!(f, "refused {number} {layer} block {block} record {record}")
     }
 }
+
+impl Error for Refusal {}

@@ -1,16 +1,17 @@
 -- No fractions satisfy all the rows that a derivation was given: they would satisfy each of its rows, and the last is false.
-use Rattle.std.proofs.Common.{◌≡◌, ℕ, zero, suc, ◌-◌, ◌<◌, Bool, true, false, cond, ◌&&◌, eqb, leb, List, [], ◌∷◌, map, length, get_or, ℤ, pos, ◌+ℤ◌, ◌*ℤ◌, ◌≤ℤ◌, Some, None, sym, refl, ◌∙◌, arith}
+use Rattle.std.proofs.Common.{◌≡◌, ℕ, zero, suc, ◌-◌, ◌<◌, true, eqb, List, [], ◌∷◌, map, length, get_or, ℤ, pos, ◌+ℤ◌, ◌*ℤ◌, ◌≤ℤ◌, Some, sym, refl, ◌∙◌, arith}
 use borrow.Author.Differences.{ints}
 use lib.IntN.{*ℤ_comm, +ℤ_idr}
 use lib.Signed.{lt_z}
 use Rattle.std.specs.List.{AllByRecursion}
 use Rattle.std.proofs.lemmas.Bool.{and_parts, eqb-true}
+use Rattle.std.proofs.lemmas.Bool.Decides.{nat_tests}
 use Rattle.arith.specs.Dot.{dot, combine}
 use Rattle.arith.specs.Lowest.{lowest_of}
 use Rattle.arith.proofs.Dots.{dot-combine_nonneg}
 use Rattle.arith.proofs.Integers.{sign_of_product}
 use Rattle.arith.proofs.LowestForms.{dot_lowest_nonneg}
-use Rattle.rows.specs.Rows.{row_limit, Fractions, Satisfies, level_of, is_false, row_of, combination_of}
+use Rattle.rows.specs.Rows.{Fractions, Satisfies, level_of, is_false, row_of, combination_of}
 use Rattle.rows.specs.Derivations.{Record, input, step, row_in, is_given, inputs_of, row_at, Stands, Derivation, IsDerivation, NoneFits}
 use Rattle.rows.proofs.Levels.{level_is}
 use Rattle.rows.proofs.Outcomes.{found_row}
@@ -22,11 +23,9 @@ lowest_follows u first v second l point p q = dot_lowest_nonneg _ point (dot-com
 
 pub combination_follows : (u : ℕ) (first : List ℤ) (v : ℕ) (second row : List ℤ) → length first ≡ length second → combination_of u first v second ≡ Some row → (point : List ℤ) → Satisfies point first → Satisfies point second → Satisfies point row
 unfolding combination_of
-combination_follows u first v second row l e point p q = go (leb u row_limit && leb v row_limit) e
-  where
-    go : (b : Bool) → cond b (row_of (combine (pos u) first (pos v) second)) None ≡ Some row → Satisfies point row
-    go true e = found_row (λ zs. zs) (Some row) (combine (pos u) first (pos v) second) (Satisfies point) (sym e) (lowest_follows u first v second l point p q)
-    go false e = let z : ◌≡◌ {A = ℕ} 0 1 = cc in absurd (omega arith)
+combination_follows u first v second row l e point p q =
+    let m : Some row ≡ row_of (combine (pos u) first (pos v) second) = grind (arith, nat_tests) in
+    found_row (Some row) (combine (pos u) first (pos v) second) (Satisfies point) m (lowest_follows u first v second l point p q)
 
 -- a row with no coefficient but 0 is worth its constant times the denominator
 dot-zeros : (xs ps : List ℤ) → ((k : ℕ) → get_or xs k (pos 0) ≡ pos 0) → dot xs ps ≡ pos 0

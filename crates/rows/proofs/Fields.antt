@@ -1,27 +1,19 @@
 -- Numbers and zeros in bytes: what is written reads back, and what is read was written.
-use Rattle.std.proofs.Common.{◌≡◌, ℕ, zero, suc, ◌+◌, ◌-◌, ◌*◌, ◌/◌, ◌%◌, ◌^◌, ◌<◌, ◌≤◌, true, eqb, List, [], ◌∷◌, ◌++◌, length, get_or, take, drop, ℤ, sym, refl, ap, ◌∙◌, mod-lt, mod-eq_of_lt, arith, w32, SFits, to_z, of_z}
+use Rattle.std.proofs.Common.{◌≡◌, ℕ, zero, suc, ◌+◌, ◌-◌, ◌*◌, ◌/◌, ◌%◌, ◌^◌, ◌<◌, ◌≤◌, true, eqb, List, [], ◌∷◌, ◌++◌, length, get_or, take, drop, ℤ, sym, refl, ap, ◌∙◌, mod-lt, mod-eq_of_lt, arith, w32, SFits, to_z, of_z, take-add}
 use native.Mathlib.Nat.{div-div-eq-div-mul, mod-add-div}
 use mir.Facts.{Fits-of_z}
 use Rattle.std.proofs.ByRecursion.{All-get_or}
-use Rattle.std.proofs.lemmas.List.{get_or-append_right, drop_more, drop-drop, drop-take, drop_at, take_at, take-take, take-append-drop, length-take, length-drop, length-replicate}
+use Rattle.std.proofs.lemmas.List.{get_or-append_right, drop_more, drop-drop, drop_at, take_at, length-take, length-drop, length-replicate}
 use Rattle.std.proofs.lemmas.Int.{to_z-of_z, of_z-to_z}
 use Rattle.std.proofs.lemmas.Bool.{eqb-true, and_parts}
 use Rattle.rows.specs.Bytes.{AllBytes, le16, le32, le_i32, bytes16, bytes32, bytes_i32, zeros, zeros_in}
 use Rattle.rows.specs.Image.{zero_bytes}
 
 -- parts that follow one another
-take_two : (a b : ℕ) (xs : List ℕ) → take a xs ++ take b (drop a xs) ≡ take (a + b) xs
-take_two a b xs =
-    let e : take a (take (a + b) xs) ≡ take a xs = take-take a (a + b) xs (omega arith) in
-    let d = drop-take a b xs in
-    let j = take-append-drop a (take (a + b) xs) in
-    cc
-
 pub join : (at a b : ℕ) (xs ys zs : List ℕ) → ys ≡ take a (drop at xs) → zs ≡ take b (drop (at + a) xs) → ys ++ zs ≡ take (a + b) (drop at xs)
 join at a b xs ys zs h k =
     let d = drop-drop a at xs in
-    let t = take_two a b (drop at xs) in
-    rw (h, k, ← d) t
+    rw (h, k, ← d) (sym (take-add a b (drop at xs)))
 
 -- a byte behind others
 behind : (pre rest : List ℕ) (at k : ℕ) → length pre ≡ at → get_or (pre ++ rest) (at + k) 0 ≡ get_or rest k 0

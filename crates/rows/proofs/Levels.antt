@@ -1,40 +1,12 @@
--- The last place of a list that does not hold 0: one place further on, and what makes it the level.
-use Rattle.std.proofs.Common.{◌≡◌, ℕ, zero, suc, ◌+◌, ◌<◌, ◌≤◌, List, [], ◌∷◌, length, get_or, take, ℤ, pos, negsuc, refl, ap, add-one, arith}
+-- The last place of a list that does not hold 0: what makes it the level, and a search for it from the end.
+use Rattle.std.proofs.Common.{◌≡◌, ℕ, zero, suc, ◌+◌, ◌<◌, ◌≤◌, List, [], ◌∷◌, length, get_or, ℤ, pos, negsuc, Bool, true, false, Option, Some, None, MatchOption, IsSomeAnd, unwrap_or, Bor, Iter, ◌≢◌, sym, refl, ap, ◌∙◌, subst, ⊎_elim, arith}
+use denote.Param.Members.{Mut, Called}
+use Rattle.std.specs.Iterator.{Yields, YieldsThen, FindsPositionBack}
+use Rattle.std.specs.List.{FoldsTo, push}
+use Rattle.std.specs.Slice.Iter.{iter_rest, iter_steps_back}
+use Rattle.std.proofs.lemmas.Bool.{cases_lt}
+use Rattle.std.proofs.lemmas.List.{get_or_append_left, get_or_past, get_or_push, length_push}
 use Rattle.rows.specs.Rows.{last_with, last_place, level_of, IsLevel}
-
-last_more : (xs : List ℤ) (i : ℕ) → i < length xs → ¬ (get_or xs i (pos 0) ≡ pos 0) → last_place (take (suc i) xs) ≡ suc i
-unfolding last_place last_with
-last_more [] i h n = absurd (omega arith)
-last_more (x ∷ xs) zero h n = last x n
-  where
-    last : (z : ℤ) → ¬ (z ≡ pos 0) → last_with z 0 ≡ 1
-    last (pos zero) n = absurd (n refl)
-    last (pos (suc k)) n = refl
-    last (negsuc k) n = refl
-last_more (x ∷ xs) (suc i) h n = rw (last_more xs i (omega arith) n)
-
-last_same : (xs : List ℤ) (i : ℕ) → i < length xs → get_or xs i (pos 0) ≡ pos 0 → last_place (take (suc i) xs) ≡ last_place (take i xs)
-unfolding last_place last_with
-last_same [] i h e = absurd (omega arith)
-last_same (x ∷ xs) zero h e = ap (λ z. last_with z 0) e
-last_same (x ∷ xs) (suc i) h e = ap (last_with x) (last_same xs i (omega arith) e)
-
-pub level_none : (xs : List ℤ) → level_of (take 1 xs) ≡ 0
-unfolding level_of last_place
-level_none [] = refl
-level_none (x ∷ xs) = refl
-
-pub level_more : (xs : List ℤ) (i : ℕ) → 1 ≤ i → i < length xs → ¬ (get_or xs i (pos 0) ≡ pos 0) → level_of (take (i + 1) xs) ≡ i
-unfolding level_of
-level_more [] i l h n = absurd (omega arith)
-level_more (x ∷ xs) zero l h n = absurd (omega arith)
-level_more (x ∷ xs) (suc i) l h n = rw add-one (last_more xs i (omega arith) n)
-
-pub level_same : (xs : List ℤ) (i : ℕ) → 1 ≤ i → i < length xs → get_or xs i (pos 0) ≡ pos 0 → level_of (take (i + 1) xs) ≡ level_of (take i xs)
-unfolding level_of
-level_same [] i l h e = absurd (omega arith)
-level_same (x ∷ xs) zero l h e = absurd (omega arith)
-level_same (x ∷ xs) (suc i) l h e = rw add-one (last_same xs i (omega arith) e)
 
 -- what stands past the last place, and at it
 with_below : (z : ℤ) (p j : ℕ) → last_with z p ≤ suc j → p ≤ j
@@ -85,3 +57,60 @@ level_is (b ∷ xs) = record { past = past; own = own }
         at : (p : ℕ) → last_place xs ≡ p → 0 < p → get_or (b ∷ xs) p (pos 0) ≡ pos 0 → ⊥
         at zero e h z = absurd (omega arith)
         at (suc p) e h z = last_own xs p e z
+
+pub level_unique : (row : List ℤ) (k : ℕ) → IsLevel row k → k ≡ level_of row
+level_unique row k i = on (level_of row) (level_is row)
+  where
+    on : (l : ℕ) → IsLevel row l → k ≡ l
+    on l j =
+        ⊎_elim
+        (λ (h : k < l). absurd (j.own (omega arith) (i.past l h)))
+        (λ (h : l ≤ k). ⊎_elim (λ (m : l < k). absurd (i.own (omega arith) (j.past k m))) (λ (m : k ≤ l). omega arith) (cases_lt l k))
+        (cases_lt k l)
+
+-- zs are the numbers that are left of ys, and the n past them were 0
+record Passed (ys zs : List ℤ) (n : ℕ) : Type 0 where
+  long : length ys ≡ length zs + n
+  past : (k : ℕ) → length zs ≤ k → get_or ys k (pos 0) ≡ pos 0
+  before : (k : ℕ) → k < length zs → get_or ys k (pos 0) ≡ get_or zs k (pos 0)
+
+one_passed : (ys zs : List ℤ) (n : ℕ) (z : ℤ) → z ≡ pos 0 → Passed ys zs n → Passed (push ys z) zs (suc n)
+one_passed ys zs n z e p = record {
+  long = omega (arith, length_push ys z, p.long);
+  past = λ k h. at k h;
+  before = λ k l. get_or_append_left ys (z ∷ []) (pos 0) k (omega (arith, p.long)) ∙ p.before k l;
+}
+  where
+    at : (k : ℕ) → length zs ≤ k → get_or (push ys z) k (pos 0) ≡ pos 0
+    at k h =
+        ⊎_elim
+        (λ (l : k < length ys). get_or_append_left ys (z ∷ []) (pos 0) k l ∙ p.past k h)
+        (λ (l : length ys ≤ k).
+        ⊎_elim
+        (λ (m : length ys < k). get_or_past (push ys z) k (pos 0) (omega (arith, length_push ys z)))
+        (λ (m : k ≤ length ys). get_or_push ys z (pos 0) k (omega arith) ∙ e)
+        (cases_lt (length ys) k))
+        (cases_lt k (length ys))
+
+module _ {F : Type 0} (g : Mut F (Bor ℤ × Unit {0}) Bool) (no : (p q : F) (x : Bor ℤ) → Called g p (x, tt) false q → x.now ≡ pos 0) (yes : (p q : F) (x : Bor ℤ) → Called g p (x, tt) true q → x.now ≢ pos 0) where
+  passed : (xs : List (Bor ℤ)) (s t : Iter ℤ) (f h : F) → Yields iter_steps_back s xs t → FoldsTo (λ p x q. Called g p (x, tt) false q) f xs h → Passed (iter_rest s) (iter_rest t) (length xs)
+  passed [] s t f h y c =
+      subst (λ (i : Iter ℤ). Passed (iter_rest s) (iter_rest i) 0) y
+      record { long = omega arith; past = λ k l. get_or_past (iter_rest s) k (pos 0) l; before = λ k l. refl }
+  passed (x ∷ xs) s t f h y c =
+      rw y.1 (one_passed (iter_rest y.0) (iter_rest t) (length xs) x.now (no f c.0 x c.1) (passed xs y.0 t c.0 h y.2 c.2))
+
+  pub level_back : (s u : Iter ℤ) (f : F) (r : Option ℕ) → FindsPositionBack iter_steps_back g s f (length (iter_rest s)) r u → IsLevel (iter_rest s) (unwrap_or r 0)
+  level_back s u f r d = go r d.0 d.2 d.1 d.3 d.4 d.5
+    where
+      go : (r : Option ℕ) (xs : List (Bor ℤ)) (h : F) (o : Option (Bor ℤ)) → YieldsThen iter_steps_back s xs o u → FoldsTo (λ p x q. Called g p (x, tt) false q) f xs h → MatchOption o (r ≡ None) (λ x. IsSomeAnd r (λ i. i + 1 + length xs ≡ length (iter_rest s)) × ((q : F) × Called g h (x, tt) true q)) → IsLevel (iter_rest s) (unwrap_or r 0)
+      go r xs h None y c e =
+          let p = passed xs s y.0 f h y.1 c in
+          rw e record { past = λ j l. p.past j (omega (arith, y.2.0)); own = λ l. absurd (omega arith) }
+      go None xs h (Some x) y c e = absurd e.0
+      go (Some i) xs h (Some x) y c e =
+          let p = passed xs s y.0 f h y.1 c in
+          let n : length (iter_rest y.0) ≡ length (iter_rest u) + 1 = ap length y.2 ∙ length_push (iter_rest u) x.now in
+          let l : length (iter_rest u) ≡ i = omega (arith, p.long, e.0) in
+          let at : get_or (iter_rest s) i (pos 0) ≡ x.now = p.before i (omega arith) ∙ ap (λ zs. get_or zs i (pos 0)) y.2 ∙ get_or_push (iter_rest u) x.now (pos 0) i l in
+          record { past = λ j m. p.past j (omega arith); own = λ m z. yes h e.1.0 x e.1.1 (sym at ∙ z) }

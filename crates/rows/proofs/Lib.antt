@@ -11,3 +11,4 @@ pub mod RecordBytes
 pub mod BlockBytes
 pub mod Images
 pub mod Consequences
+pub mod Arrays

@@ -1,23 +1,24 @@
 -- Numbers of 32 and of 64 bits: what a cast leaves as it is, and which products and sums fit.
-use Rattle.std.proofs.Common.{◌≡◌, ℕ, zero, suc, ◌+◌, ◌*◌, ◌^◌, ◌<◌, ◌≤◌, List, [], ◌∷◌, get_or, ℤ, pos, ◌+ℤ◌, ◌*ℤ◌, nat_abs, ap₂, zero-le, div-le_self, arith, w32, w64, SFits, to_z, of_z}
-use borrow.Author.Differences.{ints, up, down}
+use Rattle.std.proofs.Common.{◌≡◌, ℕ, zero, suc, ◌+◌, ◌*◌, ◌^◌, ◌<◌, ◌≤◌, List, [], ◌∷◌, get_or, ℤ, pos, ◌+ℤ◌, ◌*ℤ◌, nat_abs, refl, ◌∙◌, zero-le, arith, w32, w64, SFits, to_z, of_z}
+use borrow.Author.Differences.{ints}
 use lib.Signed.{quot_z}
 use mir.Val.{Val}
 use denote.Array.{each}
 use denote.Shadow.{shadow}
 use denote.Signed.{SInt}
-use Rattle.std.proofs.lemmas.Int.{to_z-of_z}
-use Rattle.arith.proofs.Integers.{product_within, sum_within}
+use Rattle.std.proofs.lemmas.Int.{to_z-of_z, quot_fits}
+use Rattle.arith.proofs.Integers.{product_within}
 
 -- a number as a variable of 64 bits holds it, and one of 32 bits that is cast to 64
 abbrev pub read : ℤ → ℤ
 read z = to_z w64 (of_z w64 z)
 
-abbrev pub wide : ℤ → ℤ
-wide z = read (to_z w32 (of_z w32 z))
+-- a number within the limit of a row, cast to 32 bits
+pub narrow_fits : (z : ℤ) → nat_abs z ≤ 2 ^ 20 → SFits w32 (read z)
+narrow_fits z h = omega (arith, ints)
 
-pub wide_is : (z : ℤ) → SFits w32 z → wide z ≡ z
-wide_is z f = omega (arith, ints)
+pub narrow_is : (z y : ℤ) → nat_abs z ≤ 2 ^ 20 → y ≡ to_z w32 (of_z w32 (read z)) → y ≡ z
+narrow_is z y h e = omega (arith, ints)
 
 fits_within : (z : ℤ) → nat_abs z ≤ 2 ^ 62 → SFits w64 z
 fits_within z h = omega (arith, ints)
@@ -32,57 +33,64 @@ each_within (x ∷ xs) [] k p = absurd p
 each_within (x ∷ xs) (u ∷ us) zero p = within_fits x (record { sfits = p.0.1 })
 each_within (x ∷ xs) (u ∷ us) (suc k) p = each_within xs us k p.1
 
-pub quot_fits : (x : ℤ) (g : ℕ) → SFits w64 x → SFits w64 (quot_z x (pos g))
-quot_fits x g f = omega (arith, ints, div-le_self (up x) g, div-le_self (down x) g)
+-- a number divided by a divisor, both within 2^53
+module _ (g : ℕ) (z : ℤ) (positive : 0 < g) (small : g ≤ 2 ^ 53) (within : nat_abs z ≤ 2 ^ 53) where
+  divisor_is : read (to_z w64 g) ≡ pos g
+  divisor_is = omega (arith, ints)
 
--- the product of two numbers of 32 bits
-pub wide_product : (a b : ℤ) → SFits w32 a → SFits w32 b → read (wide a *ℤ wide b) ≡ a *ℤ b
-wide_product a b f g =
-    let m = product_within a b (2 ^ 31) (2 ^ 31) (within_fits a f) (within_fits b g) in
-    rw (wide_is a f, wide_is b g) (to_z-of_z w64 (a *ℤ b) (fits_within (a *ℤ b) m))
+  number_is : read z ≡ z
+  number_is = omega (arith, ints)
 
--- a multiplier times a number of 32 bits, and the sum of two such products
-times_is : (u : ℕ) (x : ℤ) → u ≤ 2 ^ 20 → SFits w32 x → to_z w64 u *ℤ wide x ≡ pos u *ℤ x
-times_is u x h f = ap₂ ◌*ℤ◌ (low u h) (wide_is x f)
+  fits : SFits w64 (quot_z z (pos g))
+  fits = quot_fits w64 z (pos g) (omega (arith, ints)) (omega (arith, ints))
+
+  pub quot_serves : (0 < of_z w64 (to_z w64 g)) × SFits w64 (quot_z (read z) (read (to_z w64 g)))
+  quot_serves = (omega (arith, ints), rw (divisor_is, number_is) fits)
+
+  pub quot_reads : (y : ℤ) → y ≡ read (quot_z (read z) (read (to_z w64 g))) → y ≡ quot_z z (pos g)
+  quot_reads y e = e ∙ rw (divisor_is, number_is) (to_z-of_z w64 _ fits)
+
+-- the sum of two numbers of 51 bits
+module _ (s t : ℤ) (h : nat_abs s ≤ 2 ^ 51) (k : nat_abs t ≤ 2 ^ 51) where
+  pub sum_fits : SFits w64 (read s +ℤ read t)
+  sum_fits = omega (arith, ints)
+
+  pub sum_is : (y : ℤ) → y ≡ read (read s +ℤ read t) → y ≡ s +ℤ t
+  sum_is y e = omega (arith, ints)
+
+  pub sum_small : (y : ℤ) → y ≡ read (read s +ℤ read t) → nat_abs y ≤ 2 ^ 53
+  sum_small y e = omega (arith, ints)
+
+-- a multiplier times a number of 32 bits, as the code reads what `i64::from` gave
+pub times_reads : (u : ℕ) (x a b : ℤ) → u ≤ 2 ^ 20 → SFits w32 x → a ≡ pos u → b ≡ to_z w32 (of_z w32 x) → (read (read a *ℤ read b) ≡ pos u *ℤ x) × (nat_abs (read (read a *ℤ read b)) ≤ 2 ^ 51)
+times_reads u x a b h f p q =
+    let m = product_within (pos u) x (2 ^ 20) (2 ^ 31) h (within_fits x f) in
+    let i : read a ≡ pos u = omega (arith, ints) in
+    let j : read b ≡ x = omega (arith, ints) in
+    rw (i, j, to_z-of_z w64 (pos u *ℤ x) (fits_within (pos u *ℤ x) (omega arith))) (refl, m)
+
+-- one more product of a row's number and a value in a sum of at most nine, as the code reads what `i64::from` gave
+pub record Added (s a b x y : ℤ) (n : ℕ) : Type 0 where
+  pub fits : SFits w64 (s +ℤ read (read x *ℤ read y))
+  pub is : read (s +ℤ read (read x *ℤ read y)) ≡ s +ℤ a *ℤ b
+  pub within : nat_abs (s +ℤ a *ℤ b) ≤ 2 ^ 38 * (n + 1)
+
+-- the first equation only says which number s is
+pub added : {s z : ℤ} (a b x y : ℤ) (n : ℕ) → s ≡ z → nat_abs s ≤ 2 ^ 38 * n → n < 9 → nat_abs a ≤ 2 ^ 20 → nat_abs b ≤ 2 ^ 18 → x ≡ to_z w32 (of_z w32 a) → y ≡ to_z w32 (of_z w32 b) → Added s a b x y n
+added {s} {z} a b x y n e h l ha hb ex ey =
+    let p : read x ≡ a = omega (arith, ints) in
+    let q : read y ≡ b = omega (arith, ints) in
+    let m = product_within a b (2 ^ 20) (2 ^ 18) ha hb in
+    record { fits = rw (p, q) (fits (a *ℤ b) m); is = rw (p, q) (is (a *ℤ b) m); within = within (a *ℤ b) m }
   where
-    low : (u : ℕ) → u ≤ 2 ^ 20 → to_z w64 u ≡ pos u
-    low u h = omega (arith, ints)
+    fits : (t : ℤ) → nat_abs t ≤ 2 ^ 38 → SFits w64 (s +ℤ read t)
+    fits t k = omega (arith, ints)
 
-times_within : (u : ℕ) (x : ℤ) → u ≤ 2 ^ 20 → SFits w32 x → nat_abs (pos u *ℤ x) ≤ 2 ^ 51
-times_within u x h f = product_within (pos u) x (2 ^ 20) (2 ^ 31) h (within_fits x f)
+    is : (t : ℤ) → nat_abs t ≤ 2 ^ 38 → read (s +ℤ read t) ≡ s +ℤ t
+    is t k = omega (arith, ints)
 
-pub times_fits : (u : ℕ) (x : ℤ) → u ≤ 2 ^ 20 → SFits w32 x → SFits w64 (to_z w64 u *ℤ wide x)
-times_fits u x h f = rw (times_is u x h f) (fits_within (pos u *ℤ x) (omega (arith, times_within u x h f)))
-
-pub mixed_is : (u : ℕ) (x : ℤ) (v : ℕ) (y : ℤ) → u ≤ 2 ^ 20 → SFits w32 x → v ≤ 2 ^ 20 → SFits w32 y → SFits w64 (read (to_z w64 u *ℤ wide x) +ℤ read (to_z w64 v *ℤ wide y)) × (read (read (to_z w64 u *ℤ wide x) +ℤ read (to_z w64 v *ℤ wide y)) ≡ pos u *ℤ x +ℤ pos v *ℤ y)
-mixed_is u x v y hu fx hv fy =
-    rw (times_is u x hu fx, times_is v y hv fy) (both (pos u *ℤ x) (pos v *ℤ y) (times_within u x hu fx) (times_within v y hv fy))
-  where
-    both : (s t : ℤ) → nat_abs s ≤ 2 ^ 51 → nat_abs t ≤ 2 ^ 51 → SFits w64 (read s +ℤ read t) × (read (read s +ℤ read t) ≡ s +ℤ t)
-    both s t h k = (omega (arith, ints), omega (arith, ints))
-
-pub mixed_within : (u : ℕ) (x : ℤ) (v : ℕ) (y : ℤ) → u ≤ 2 ^ 20 → SFits w32 x → v ≤ 2 ^ 20 → SFits w32 y → nat_abs (pos u *ℤ x +ℤ pos v *ℤ y) ≤ 2 ^ 53
-mixed_within u x v y hu fx hv fy =
-    let s = sum_within (pos u *ℤ x) (pos v *ℤ y) (2 ^ 51) (2 ^ 51) (times_within u x hu fx) (times_within v y hv fy) in
-    omega (arith, s)
-
--- a row's number times a value, as a call of `product` gives it
-pub read_product : (a b p : ℤ) → nat_abs a ≤ 2 ^ 20 → nat_abs b ≤ 2 ^ 18 → p ≡ to_z w32 (of_z w32 a) *ℤ to_z w32 (of_z w32 b) → (p ≡ a *ℤ b) × (nat_abs p ≤ 2 ^ 38)
-read_product a b p h k e =
-    let f : SFits w32 a = omega (arith, ints) in
-    let g : SFits w32 b = omega (arith, ints) in
-    let q : p ≡ a *ℤ b = simp to_z-of_z at e in
-    (q, rw q (product_within a b (2 ^ 20) (2 ^ 18) h k))
-
--- one more product in a sum of at most nine
-pub record Added (s p : ℤ) (i : ℕ) : Type 0 where
-  pub fits : SFits w64 (s +ℤ read p)
-  pub is : read (s +ℤ read p) ≡ s +ℤ p
-  pub within : nat_abs (s +ℤ p) ≤ 2 ^ 38 * (i + 1)
-
--- the equation only says which number s is
-pub added : {s z : ℤ} (p : ℤ) (i : ℕ) → s ≡ z → nat_abs s ≤ 2 ^ 38 * i → i < 9 → nat_abs p ≤ 2 ^ 38 → Added s p i
-added {s} {z} p i e h l k = record { fits = omega (arith, ints); is = omega (arith, ints); within = omega (arith, ints) }
+    within : (t : ℤ) → nat_abs t ≤ 2 ^ 38 → nat_abs (s +ℤ t) ≤ 2 ^ 38 * (n + 1)
+    within t k = omega (arith, ints)
 
 pub zero_bits : (z : ℤ) → SFits w32 z → of_z w32 z ≡ 0 → z ≡ pos 0
 zero_bits z f e = omega (arith, ints)

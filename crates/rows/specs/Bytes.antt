@@ -1,8 +1,8 @@
 -- Numbers as bytes, little-endian, and the seal of a block.
-use Rattle.std.specs.Prelude.{ℕ, ◌+◌, ◌*◌, ◌/◌, ◌%◌, ◌<◌, Bool, true, ◌&&◌, List, [], ◌∷◌, ℤ, ◌==◌, slice_index, slice_range}
+use Rattle.std.specs.Prelude.{ℕ, ◌+◌, ◌*◌, ◌/◌, ◌%◌, ◌<◌, Bool, List, [], ◌∷◌, ℤ, ◌==◌, slice_index, slice_range}
 use Rattle.std.specs.Int.{w32}
 use Rattle.std.proofs.Common.{to_z, of_z}
-use Rattle.std.specs.List.{AllByRecursion}
+use Rattle.std.specs.List.{AllByRecursion, list_all}
 
 abbrev pub AllBytes : List ℕ → Type 0
 AllBytes bs = AllByRecursion (λ b. b < 256) bs
@@ -29,8 +29,7 @@ bytes_i32 z = bytes32 (of_z w32 z)
 
 -- whether all bytes are zero, and those from one byte up to another
 abbrev pub zeros : List ℕ → Bool
-zeros [] = true
-zeros (x ∷ xs) = x == 0 && zeros xs
+zeros bs = list_all (λ b. b == 0) bs
 
 abbrev pub zeros_in : List ℕ → ℕ → ℕ → Bool
 zeros_in bs from to = zeros (slice_range bs from to)

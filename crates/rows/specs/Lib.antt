@@ -4,4 +4,4 @@ pub mod Derivations
 pub mod Image
 pub mod Origins
 pub mod Questions
-pub mod SameNumbers
+pub mod Kinds

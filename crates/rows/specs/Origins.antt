@@ -3,7 +3,13 @@ use Rattle.std.specs.Prelude.{List, [], ◌∷◌}
 use Rattle.rows.specs.Derivations.{Record, input, step}
 use Rattle.rows.specs.declared.origin.Origin.{Origin}
 use Rattle.rows.specs.declared.origin.Origin.TheVariants.{Input, Step}
+use Rattle.rows.specs.declared.kind.Kind.{Kind}
+use Rattle.rows.specs.declared.kind.Kind.TheVariants as kind
 use Rattle.rows.specs.declared.plain.PlainRow.{PlainRow}
+
+abbrev pub kind_of : Origin → Kind
+kind_of (Input tag) = kind.Input
+kind_of (Step first second u v) = kind.Step
 
 abbrev pub record_with : Origin → PlainRow → Record
 record_with (Input tag) row = input tag row.numbers

@@ -2,10 +2,13 @@
 --   A row is the list b ∷ a1 ∷ .. ∷ a8 and says a1·x1 + .. + a8·x8 + b ≥ 0. With n unknowns, the coefficients past an are 0.
 --   A point is the list d ∷ N1 ∷ N2 ∷ .. with d ≥ 1 and stands for the fractions xi = Ni/d.
 -- So place k of both lists belongs to xk, and place 0 to the constant and the denominator.
-use Rattle.std.specs.Prelude.{◌≡◌, ℕ, zero, suc, ◌^◌, ◌<◌, Bool, true, false, cond, ◌&&◌, List, [], ◌∷◌, length, ℤ, pos, negsuc, ◌≤ℤ◌, Some, None, Option, ◌==◌, ◌≢◌, int_le, int_lt, nat_le, slice_index_or}
+use Rattle.std.specs.Prelude.{◌≡◌, ℕ, zero, suc, ◌^◌, ◌<◌, ◌≤◌, Bool, cond, ◌&&◌, List, [], ◌∷◌, length, ℤ, pos, negsuc, ◌≤ℤ◌, Some, None, Option, ◌==◌, ◌≢◌, codes, int_le, int_lt, nat_le, slice_index_or}
 use Rattle.std.specs.List.{AllByRecursion}
+use Rattle.std.specs.Option.{option_eq}
+use Rattle.std.specs.Ordering.{int_eq}
+use Rattle.std.specs.Cmp.Lexicographic.{pointwise}
 use Rattle.arith.specs.Dot.{dot, combine}
-use Rattle.arith.specs.Lowest.{within_all, gcd_all, lowest_of}
+use Rattle.arith.specs.Lowest.{AllWithin, within_all, gcd_all, lowest_of}
 
 -- the greatest magnitude of a number of a row, and of a numerator or denominator of values
 abbrev pub row_limit : ℕ
@@ -91,16 +94,23 @@ are_values zs = within_all value_limit zs && int_le (pos 1) (slice_index_or zs 0
 unfoldable pub values_of : List ℤ → Option (List ℤ)
 values_of zs = cond (are_values zs) (Some (lowest_of zs)) None
 
--- whether two lists of numbers are the same, and whether a row came about and is this one
-abbrev pub same_number : ℤ → ℤ → Bool
-same_number x y = int_le x y && int_le y x
-
-abbrev pub same_numbers : List ℤ → List ℤ → Bool
-same_numbers [] [] = true
-same_numbers [] (y ∷ ys) = false
-same_numbers (x ∷ xs) [] = false
-same_numbers (x ∷ xs) (y ∷ ys) = same_number x y && same_numbers xs ys
-
+-- whether a row came about and is this one
 abbrev pub same_row : Option (List ℤ) → List ℤ → Bool
-same_row (Some made) row = same_numbers made row
-same_row None row = false
+same_row made row = option_eq (pointwise int_eq) made (Some row)
+
+-- what a row's numbers are known to be: nine, within the limit, and in lowest form
+pub record IsReduced (numbers : List ℤ) : Type 0 where
+  pub nine : length numbers ≡ 9
+  pub limits : AllWithin row_limit numbers
+  pub lowest : gcd_all numbers ≤ 1
+
+-- what values are known to be: nine numbers within the limit, over a denominator from 1 on, and in least terms
+pub record AreReduced (numbers : List ℤ) : Type 0 where
+  pub nine : length numbers ≡ 9
+  pub limits : AllWithin value_limit numbers
+  pub positive : pos 1 ≤ℤ slice_index_or numbers 0 (pos 0)
+  pub least : gcd_all numbers ≤ 1
+
+-- what is said of numbers that are no row
+abbrev pub not_a_row_text : List ℕ
+not_a_row_text = codes "the numbers pass the limit of a row, or have a common divisor"

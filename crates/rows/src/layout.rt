@@ -42,10 +42,6 @@ pub const RECORD: usize = 60;
 
 pub const RECORDS_IN_BLOCK: usize = 8;
 
-pub const INPUT: u8 = 1;
-
-pub const STEP: u8 = 2;
-
 pub const KIND_AT: usize = 0;
 
 pub const KIND_END: usize = 1;

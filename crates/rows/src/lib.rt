@@ -3,6 +3,7 @@
 #![tactic(auto)]
 
 mod combining;
+mod kind;
 pub mod layout;
 mod numbers;
 mod origin;
@@ -12,8 +13,9 @@ mod sealing;
 mod values;
 
 pub use combining::combination;
+pub use kind::{Kind, UnknownKind};
 pub use origin::Origin;
 pub use plain::PlainRow;
-pub use row::{ROW_LIMIT, Row};
+pub use row::{NotARow, ROW_LIMIT, Row};
 pub use sealing::seal;
 pub use values::{VALUE_LIMIT, Values};

@@ -1,4 +1,7 @@
 // Where a row comes from.
+ghost use Rattle.std.specs.Prelude.{◌≡◌};
+
+use crate::kind::Kind;
 
 // A row was given, with its tag, or it is the combination u·first + v·second of two earlier rows.
 #[derive(Clone, Copy, PartialEq, Eq, Debug)]
@@ -12,4 +15,17 @@ pub enum Origin {
         u: u32,
         v: u32,
     },
+}
+
+impl Origin {
+    ghost use Rattle.rows.specs.Origins.{kind_of};
+
+    pub fn kind(&self) -> Kind
+        ensures { result ≡ kind_of self.now }
+    {
+        match self {
+            Origin::Input { .. } => Kind::Input,
+            Origin::Step { .. } => Kind::Step,
+        }
+    }
 }

@@ -1,13 +1,12 @@
 // A row's numbers, whatever they are.
 ghost use Rattle.std.specs.Prelude.{◌≡◌};
-ghost use Rattle.rows.specs.Rows.{level_of, IsLevel, is_false, same_numbers};
-ghost use Rattle.rows.specs.SameNumbers.{same_numbers_equiv};
-ghost use Rattle.std.specs.Cmp.{partial_equiv_from_equiv, on_equiv};
+ghost use Rattle.rows.specs.Rows.{level_of, IsLevel, is_false, in_lowest};
 
-use crate::numbers::same_numbers;
+use crate::numbers::Wide;
+use crate::row::ROW_LIMIT;
 
 // The constant b and then a1 to a8; with n unknowns those past an are 0.
-#[derive(Clone, Copy, Debug)]
+#[derive(Clone, Copy, PartialEq, Eq, Debug)]
 pub struct PlainRow {
     pub numbers: [i32; 9],
 }
@@ -18,7 +17,10 @@ impl PlainRow {
         ensures value { result ≡ level_of self.now.numbers }
         ensures greatest { IsLevel self.now.numbers result }
     {
-        last_place(&self.numbers)
+        self.numbers
+            .iter()
+            .rposition(|number| *number != 0)
+            .unwrap_or(0)
     }
 
     // Whether no point satisfies the row: every coefficient is 0, and the constant is negative.
@@ -27,32 +29,12 @@ impl PlainRow {
     {
         self.level() == 0 && self.numbers[0] < 0
     }
-}
 
-impl PartialEq for PlainRow {
-    ghost eq = { λ a b. same_numbers a.numbers b.numbers };
-
-    ghost laws = { partial_equiv_from_equiv (on_equiv (λ row. row.numbers) same_numbers_equiv) };
-
-    fn eq(&self, other: &PlainRow) -> bool {
-        same_numbers(&self.numbers, &other.numbers)
+    // Whether the numbers are a row as they stand.
+    pub(crate) fn is_reduced(&self) -> bool
+        ensures { result ≡ in_lowest self.now.numbers }
+    {
+        let wide = Wide::from(self.numbers);
+        wide.is_within(ROW_LIMIT) && wide.gcd() <= 1
     }
-}
-
-impl Eq for PlainRow {
-    ghost laws = { on_equiv (λ row. row.numbers) same_numbers_equiv };
-}
-
-// The place of the last number that is not 0, but for the first number.
-fn last_place(numbers: &[i32; 9]) -> usize
-    ensures value { result ≡ level_of numbers.now }
-    ensures greatest { IsLevel numbers.now result }
-{
-    let mut last = 0;
-    for k in 1..9 {
-        if numbers[k] != 0 {
-            last = k;
-        }
-    }
-    last
 }

@@ -1,12 +1,14 @@
 // Rows that keep the limit and are in lowest form.
-ghost use Rattle.std.specs.Prelude.{◌≡◌, ◌^◌, ◌≤◌, true, if◌then◌else◌, Some, None};
-ghost use Rattle.std.specs.Option.{option_map};
-ghost use Rattle.arith.specs.Lowest.{AllWithin, gcd_all};
-ghost use Rattle.rows.specs.Rows.{worth_of, is_true, level_of, IsLevel, as_row, in_limit, row_of};
+ghost use Rattle.std.specs.Prelude.{◌≡◌, Some, ok_or};
+ghost use Rattle.arith.specs.Dot.{dot};
+ghost use Rattle.rows.specs.Rows.{worth_of, is_true, level_of, IsLevel, as_row, row_of, IsReduced, not_a_row_text};
 
-use crate::numbers::{gcd_all, lowest, narrowed, sum_of_products, widened, within};
+use crate::numbers::Wide;
 use crate::plain::PlainRow;
 use crate::values::Values;
+use std::error::Error;
+use std::fmt;
+use std::marker::Model;
 
 // The greatest magnitude of a row's number.
 pub const ROW_LIMIT: u32 = 1048576;
@@ -14,98 +16,112 @@ pub const ROW_LIMIT: u32 = 1048576;
 #[derive(Clone, Copy, Debug)]
 pub struct Row {
     plain: PlainRow,
-    ghost limits: { AllWithin (2 ^ 20) plain.numbers },
-    ghost lowest: { gcd_all plain.numbers ≤ 1 },
+}
+
+impl Model for Row {
+    ghost use Rattle.std.specs.Prelude.{List, ℤ};
+    ghost use Rattle.rows.specs.Rows.{IsReduced};
+
+    ghost Value = { List ℤ };
+
+    ghost view = { λ row. row.plain.numbers };
+
+    ghost invariant = { λ row. IsReduced row.plain.numbers };
+
+    ghost inverse = { λ numbers. record { plain = record { numbers = numbers } } };
 }
 
 impl Row {
-    // The plain row, if it is a row as it stands.
-    pub fn of(plain: PlainRow) -> Option<Row>
-        ensures { option_map (λ row. row.plain.numbers) result ≡ as_row plain.numbers }
-    {
-        if is_row(&plain.numbers) {
-            Some(Row { plain })
-        } else {
-            None
-        }
-    }
-
-    // The plain row, which the caller knows to be a row.
-    pub(crate) fn known(plain: PlainRow) -> Row
-        requires { (AllWithin (2 ^ 20) plain.numbers) × (gcd_all plain.numbers ≤ 1) }
-        ensures { result.plain ≡ plain }
-    {
-        Row { plain }
-    }
-
     // The lowest form of the numbers, the constant first; none where one of its numbers passes the limit.
     pub fn lowest_of(numbers: &[i32; 9]) -> Option<Row>
-        ensures { option_map (λ row. row.plain.numbers) result ≡ row_of numbers.now }
+        ensures { result ≡ row_of numbers.now }
     {
-        lowest_row(*numbers)
+        Row::lowest(Wide::from(*numbers))
     }
 
-    pub fn plain(&self) -> PlainRow
-        ensures { result ≡ self.now.plain }
+    // The lowest form of the numbers; the limit is judged once it is taken.
+    #[tactic(auto, unfolding(crate::specs::Rows::in_limit), using(arith::proofs::LowestForms::within_is))]
+    pub(crate) fn lowest(numbers: Wide) -> Option<Row>
+        ensures { result ≡ row_of numbers }
     {
-        self.plain
+        let least = numbers.lowest();
+        if !least.is_within(ROW_LIMIT) {
+            return None;
+        }
+        let numbers = least.narrowed();
+        Some(Row {
+            plain: PlainRow { numbers },
+        })
     }
 
     pub fn level(&self) -> usize
-        ensures value { result ≡ level_of self.now.plain.numbers }
-        ensures greatest { IsLevel self.now.plain.numbers result }
+        ensures value { result ≡ level_of self.now }
+        ensures greatest { IsLevel self.now result }
+        ensures reduced { IsReduced self.now }
     {
-        PlainRow::level(&self.plain)
+        self.plain.level()
     }
 
     // The worth a1·N1 + .. + a8·N8 + b·D at the values.
     pub fn worth(&self, values: &Values) -> i64
-        ensures { result ≡ worth_of self.now.plain.numbers values.now.numbers }
+        ensures { result ≡ worth_of self.now values.now }
     {
-        sum_of_products(&self.plain.numbers, &values.numbers)
+        sum_of_products(self, values)
     }
 
     // Whether the values satisfy the row.
     pub fn is_true(&self, values: &Values) -> bool
-        ensures { result ≡ is_true values.now.numbers self.now.plain.numbers }
+        ensures { result ≡ is_true values.now self.now }
     {
         self.worth(values) >= 0
     }
 }
 
-// Whether the numbers are a row as they stand.
-fn is_row(numbers: &[i32; 9]) -> bool
-    ensures limits { result ≡ true → AllWithin (2 ^ 20) numbers.now }
-    ensures lowest { result ≡ true → gcd_all numbers.now ≤ 1 }
-    ensures judges { as_row numbers.now ≡ (if result then Some numbers.now else None) }
-{
-    let wide = widened(numbers);
-    within(&wide, ROW_LIMIT as u64) && gcd_all(&wide) <= 1
-}
+// A plain row that is no row as it stands: a number passes the limit, or it is not in lowest form.
+#[derive(Clone, Copy, PartialEq, Eq, Debug)]
+pub struct NotARow(pub PlainRow);
 
-// The lowest form of numbers of 32 bits; owning the array says how small they are.
-fn lowest_row(numbers: [i32; 9]) -> Option<Row>
-    ensures { option_map (λ row. row.plain.numbers) result ≡ row_of numbers }
-{
-    row_of(widened(&numbers))
-}
+impl TryFrom<PlainRow> for Row {
+    type Error = NotARow;
 
-// The lowest form of the numbers; the limit is judged once it is taken.
-pub(crate) fn row_of(numbers: [i64; 9]) -> Option<Row>
-    requires { AllWithin (2 ^ 53) numbers }
-    ensures { option_map (λ row. row.plain.numbers) result ≡ row_of numbers }
-{
-    in_limit(&lowest(numbers))
-}
+    ghost try_from_gives = { λ plain row. row ≡ ok_or (as_row plain.numbers) (record { 0 = plain }) };
 
-// Numbers in lowest form as a row, if all are within the limit.
-fn in_limit(numbers: &[i64; 9]) -> Option<Row>
-    requires { gcd_all numbers.now ≤ 1 }
-    ensures { option_map (λ row. row.plain.numbers) result ≡ in_limit numbers.now }
-{
-    if !within(numbers, ROW_LIMIT as u64) {
-        return None;
+    #[tactic(auto, unfolding(crate::specs::Rows::as_row), using(crate::proofs::Outcomes::reduced_from))]
+    fn try_from(plain: PlainRow) -> Result<Self, NotARow> {
+        if plain.is_reduced() {
+            Ok(Row { plain })
+        } else {
+            Err(NotARow(plain))
+        }
     }
-    let numbers = narrowed(numbers);
-    Some(Row::known(PlainRow { numbers }))
+}
+
+impl From<Row> for PlainRow {
+    ghost from_gives = { λ row plain. (plain.numbers ≡ row) × IsReduced row };
+
+    fn from(row: Row) -> PlainRow {
+        row.plain
+    }
+}
+
+impl fmt::Display for NotARow {
+    ghost output = { λ _. Some not_a_row_text };
+
+    fn fmt<W: fmt::Write>(&self, f: &mut fmt::Formatter<W>) -> fmt::Result {
+        f.write_str("the numbers pass the limit of a row, or have a common divisor")
+    }
+}
+
+impl Error for NotARow {}
+
+// The sum of the products, place by place.
+fn sum_of_products(row: &Row, values: &Values) -> i64
+    ensures { result ≡ dot row.now values.now }
+{
+    // A loop: in a chain, no bound is found for the sum of signed numbers.
+    let mut sum = 0;
+    for (coefficient, value) in row.plain.numbers.iter().zip(&values.numbers) {
+        sum += i64::from(*coefficient) * i64::from(*value);
+    }
+    sum
 }

@@ -1,11 +1,12 @@
-// The records of an accepted image, taken from its bytes, so that they can be written again.
-use reader::{Accepted, Record};
+// The records of an accepted image, so that they can be written again.
+use reader::Accepted;
 use rows::{Origin, PlainRow, layout};
 use std::alloc::Global;
 
 #[derive(Drop)]
 pub(crate) struct Taken {
     pub(crate) unknowns: usize,
+    // Two lists, as the writer takes them.
     pub(crate) origins: Vec<Origin>,
     pub(crate) rows: Vec<PlainRow>,
 }
@@ -14,74 +15,18 @@ pub(crate) struct Taken {
 pub(crate) fn take_apart(heap: Global, image: &[u8], accepted: &Accepted) -> anyhow::Result<Taken> {
     let mut origins = Vec::new(heap);
     let mut rows = Vec::new(heap);
-    for r in 0..accepted.records() {
-        match accepted.record(r) {
-            Ok(Record::Input(rec)) => {
-                origins.push(input(rec))?;
-                rows.push(row(rec))?;
-            }
-            Ok(Record::Step(rec)) => {
-                origins.push(step(rec))?;
-                rows.push(row(rec))?;
-            }
-            Err(_) => {}
-        }
+    for record in (0..accepted.records()).filter_map(|r| accepted.record(r).ok()) {
+        origins.push(record.origin())?;
+        rows.push(record.row())?;
     }
     Ok(Taken {
-        unknowns: u16_at(image, layout::UNKNOWNS_AT) as usize,
+        unknowns: unknowns_in(image).unwrap_or(0),
         origins,
         rows,
     })
 }
 
-fn input(rec: &[u8]) -> Origin {
-    Origin::Input {
-        tag: u16_at(rec, layout::FIRST_AT),
-    }
-}
-
-fn step(rec: &[u8]) -> Origin {
-    Origin::Step {
-        first: u16_at(rec, layout::FIRST_AT),
-        second: u16_at(rec, layout::SECOND_AT),
-        u: u32_at(rec, layout::U_AT),
-        v: u32_at(rec, layout::V_AT),
-    }
-}
-
-fn row(rec: &[u8]) -> PlainRow {
-    let mut numbers = [0; 9];
-    numbers[0] = i32_at(rec, layout::CONSTANT_AT);
-    for k in 1..9 {
-        numbers[k] = i32_at(rec, layout::COEFFICIENTS_AT + 4 * (k - 1));
-    }
-    PlainRow { numbers }
-}
-
-fn u16_at(bytes: &[u8], at: usize) -> u16 {
-    u16::from_le_bytes([byte(bytes, at), byte(bytes, at.saturating_add(1))])
-}
-
-fn u32_at(bytes: &[u8], at: usize) -> u32 {
-    u32::from_le_bytes(four(bytes, at))
-}
-
-fn i32_at(bytes: &[u8], at: usize) -> i32 {
-    i32::from_le_bytes(four(bytes, at))
-}
-
-fn four(bytes: &[u8], at: usize) -> [u8; 4] {
-    [
-        byte(bytes, at),
-        byte(bytes, at.saturating_add(1)),
-        byte(bytes, at.saturating_add(2)),
-        byte(bytes, at.saturating_add(3)),
-    ]
-}
-
-fn byte(bytes: &[u8], at: usize) -> u8 {
-    match bytes.get(at) {
-        Some(byte) => *byte,
-        None => 0,
-    }
+fn unknowns_in(image: &[u8]) -> Option<usize> {
+    let number = image.get(layout::UNKNOWNS_AT..)?.first_chunk()?;
+    Some(usize::from(u16::from_le_bytes(*number)))
 }

@@ -26,16 +26,11 @@ fn answer(rt: &HostRuntime, name: &str) -> anyhow::Result<()> {
 
 // How many of the records are inputs and how many are steps, as they are shown one by one.
 fn shown(accepted: &Accepted) -> (usize, usize) {
-    let mut inputs = 0usize;
-    let mut steps = 0usize;
-    for r in 0..accepted.records() {
-        match accepted.record(r) {
-            Ok(Record::Input(_)) => inputs = inputs.saturating_add(1),
-            Ok(Record::Step(_)) => steps = steps.saturating_add(1),
-            Err(_) => {}
-        }
-    }
-    (inputs, steps)
+    let records = 0..accepted.records();
+    let inputs = records.filter(|r| matches!(accepted.record(*r), Ok(Record::Input(_))));
+    let records = 0..accepted.records();
+    let steps = records.filter(|r| matches!(accepted.record(*r), Ok(Record::Step(_))));
+    (inputs.count(), steps.count())
 }
 
 fn show(rt: &HostRuntime, name: &str) -> anyhow::Result<()> {
@@ -54,6 +49,29 @@ fn show(rt: &HostRuntime, name: &str) -> anyhow::Result<()> {
 // What is in a buffer before it is written.
 const BEFORE: u8 = 170;
 
+// Tells what comes of writing the records into the buffer, and whether it holds then what is expected.
+fn tell(
+    rt: &HostRuntime,
+    records: &Records,
+    buffer: &mut [u8],
+    expected: &[u8],
+    words: [&str; 2],
+) -> anyhow::Result<()> {
+    match write_and_read(records, buffer) {
+        Ok(true) => print!(rt; "accepted")?,
+        Ok(false) => print!(rt; "not accepted")?,
+        Err(refusal) => print!(rt; "{refusal}")?,
+    }
+    let [as_expected, otherwise] = words;
+    let word = if *buffer == *expected {
+        as_expected
+    } else {
+        otherwise
+    };
+    println!(rt; ", {word}")?;
+    Ok(())
+}
+
 // Tells whether the image is written as it was, with three bytes behind it untouched.
 fn write_again(rt: &HostRuntime, bytes: &[u8], records: &Records) -> anyhow::Result<()> {
     let behind = [BEFORE; 3];
@@ -61,39 +79,26 @@ fn write_again(rt: &HostRuntime, bytes: &[u8], records: &Records) -> anyhow::Res
     expected.extend_from_slice(bytes)?;
     expected.extend_from_slice(&behind)?;
     let mut buffer = vec![in rt.alloc(); BEFORE; expected.len()]?;
-    match write_and_read(records, &mut buffer) {
-        Ok(true) => print!(rt; "accepted")?,
-        Ok(false) => print!(rt; "not accepted")?,
-        Err(refusal) => {
-            let number = refusal.number();
-            print!(rt; "refused {number}")?
-        }
-    }
-    if buffer == expected {
-        println!(rt; ", the same bytes")?;
-    } else {
-        println!(rt; ", other bytes")?;
-    }
-    Ok(())
+    tell(
+        rt,
+        records,
+        &mut buffer,
+        &expected,
+        ["the same bytes", "other bytes"],
+    )
 }
 
-// Tells the number with which a buffer of that size is refused, and whether it is untouched.
+// Tells with which number a buffer of that size is refused, and whether it is untouched.
 fn write_nothing(rt: &HostRuntime, size: usize, records: &Records) -> anyhow::Result<()> {
     let mut buffer = vec![in rt.alloc(); BEFORE; size]?;
     let untouched = vec![in rt.alloc(); BEFORE; size]?;
-    match write_and_read(records, &mut buffer) {
-        Ok(_) => print!(rt; "written")?,
-        Err(refusal) => {
-            let number = refusal.number();
-            print!(rt; "refused {number}")?
-        }
-    }
-    if buffer == untouched {
-        println!(rt; ", untouched")?;
-    } else {
-        println!(rt; ", touched")?;
-    }
-    Ok(())
+    tell(
+        rt,
+        records,
+        &mut buffer,
+        &untouched,
+        ["untouched", "touched"],
+    )
 }
 
 // Writes the records of an accepted image again, into a buffer that is longer and into one that is a byte too short.
@@ -127,23 +132,26 @@ fn refuse(rt: &HostRuntime, unknowns: usize, count: usize) -> anyhow::Result<()>
     write_nothing(rt, layout::LARGEST_IMAGE, &records)
 }
 
+// Does the work for the name of every image that the lines tell of.
+fn for_each_image<F: FnMut(&str) -> anyhow::Result<()>>(
+    lines: &str,
+    mut work: F,
+) -> anyhow::Result<()>
+    requires { F.IsAlwaysCallable work }
+{
+    for line in lines.lines() {
+        if let Some((name, _)) = line.split_once(' ') {
+            work(name)?;
+        }
+    }
+    Ok(())
+}
+
 fn main(rt: HostRuntime) -> anyhow::Result<()> {
     let lines = fs::read_to_string(&rt, "lines.txt")?;
-    for line in lines.as_str().lines() {
-        if let Some((name, _)) = line.split_once(' ') {
-            answer(&rt, name)?;
-        }
-    }
-    for line in lines.as_str().lines() {
-        if let Some((name, _)) = line.split_once(' ') {
-            show(&rt, name)?;
-        }
-    }
-    for line in lines.as_str().lines() {
-        if let Some((name, _)) = line.split_once(' ') {
-            rewrite(&rt, name)?;
-        }
-    }
+    for_each_image(&lines, |name| answer(&rt, name))?;
+    for_each_image(&lines, |name| show(&rt, name))?;
+    for_each_image(&lines, |name| rewrite(&rt, name))?;
     refuse(&rt, 0, 1)?;
     refuse(&rt, 9, 1)?;
     refuse(&rt, 1, 0)?;

@@ -1,2 +1,2 @@
-mod Fronts
-mod Pairs
+pub mod Written
+pub mod Pairs

@@ -3,6 +3,7 @@
 
 mod blocks;
 mod fields;
+mod image;
 mod record;
 mod records;
 mod refusal;

@@ -1,57 +1,54 @@
 // One record, in its 60 bytes.
-ghost use Rattle.std.specs.Prelude.{◌≡◌, ◌++◌, length};
+ghost use Rattle.std.specs.Prelude.{◌≡◌, ◌++◌};
+ghost use Rattle.std.specs.List.{flat_map};
 ghost use Rattle.rows.specs.Image.{record_bytes, row_bytes, zero_bytes};
 ghost use Rattle.rows.specs.Origins.{record_with};
 
-use crate::fields::{put_i32, put_u16, put_u32};
+use crate::fields::put;
 use rows::{Origin, PlainRow, layout};
 
-pub(crate) fn write_record(rec: &mut [u8], origin: Origin, row: &PlainRow)
-    requires { length rec.old ≡ 60 }
-    ensures { rec.new ≡ record_bytes (record_with origin row.now) }
+pub(crate) fn record_bytes(origin: Origin, row: &PlainRow) -> [u8; layout::RECORD]
+    ensures { result ≡ record_bytes (record_with origin row.now) }
 {
-    write_origin(&mut rec[..layout::COEFFICIENTS_AT], origin);
-    write_row(&mut rec[layout::COEFFICIENTS_AT..layout::ROW_END], row);
-    rec[layout::ROW_END..layout::RECORD].fill(0);
+    let mut bytes = [0; layout::RECORD];
+    put(&mut bytes, 0, &origin_bytes(origin));
+    put(
+        &mut bytes,
+        layout::COEFFICIENTS_AT,
+        row_bytes(row).as_flattened(),
+    );
+    bytes
 }
 
 // The bytes before the row.
-fn write_origin(bytes: &mut [u8], origin: Origin)
-    requires { length bytes.old ≡ 16 }
-    ensures { (row : PlainRow) → record_bytes (record_with origin row) ≡ bytes.new ++ (row_bytes row.numbers ++ zero_bytes 8) }
+#[tactic(auto, unfolding(rows::specs::Image::record_bytes))]
+fn origin_bytes(origin: Origin) -> [u8; layout::COEFFICIENTS_AT]
+    ensures { (row : PlainRow) → record_bytes (record_with origin row) ≡ result ++ (row_bytes row.numbers ++ zero_bytes 8) }
 {
-    bytes.fill(0);
+    let mut bytes = [0; layout::COEFFICIENTS_AT];
+    bytes[layout::KIND_AT] = origin.kind().into();
     match origin {
-        Origin::Input { tag } => {
-            bytes[layout::KIND_AT] = layout::INPUT;
-            put_u16(bytes, layout::FIRST_AT, tag);
-        }
+        Origin::Input { tag } => put(&mut bytes, layout::FIRST_AT, &tag.to_le_bytes()),
         Origin::Step {
             first,
             second,
             u,
             v,
         } => {
-            bytes[layout::KIND_AT] = layout::STEP;
-            put_u16(bytes, layout::FIRST_AT, first);
-            put_u16(bytes, layout::SECOND_AT, second);
-            put_u32(bytes, layout::U_AT, u);
-            put_u32(bytes, layout::V_AT, v);
+            put(&mut bytes, layout::FIRST_AT, &first.to_le_bytes());
+            put(&mut bytes, layout::SECOND_AT, &second.to_le_bytes());
+            put(&mut bytes, layout::U_AT, &u.to_le_bytes());
+            put(&mut bytes, layout::V_AT, &v.to_le_bytes());
         }
     }
+    bytes
 }
 
-// The coefficients and then the constant.
-fn write_row(bytes: &mut [u8], row: &PlainRow)
-    requires { length bytes.old ≡ 36 }
-    ensures { bytes.new ≡ row_bytes row.now.numbers }
+// The coefficients and then the constant, four bytes each.
+fn row_bytes(row: &PlainRow) -> [[u8; 4]; 9]
+    ensures { flat_map (λ number. number) result ≡ row_bytes row.now.numbers }
 {
-    for k in 1..9 {
-        put_i32(bytes, 4 * (k - 1), row.numbers[k]);
-    }
-    put_i32(
-        bytes,
-        layout::CONSTANT_AT - layout::COEFFICIENTS_AT,
-        row.numbers[0],
-    );
+    let mut bytes = row.numbers.map(i32::to_le_bytes);
+    bytes.rotate_left(1);
+    bytes
 }

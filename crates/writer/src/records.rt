@@ -1,14 +1,16 @@
 // The records of a derivation, and writing them.
-ghost use Rattle.std.specs.Prelude.{◌≡◌, ◌≤◌, ◌++◌, length, take, drop, IfOk};
-ghost use Rattle.rows.specs.Image.{image_size, image_of};
+ghost use Rattle.std.specs.Prelude.{◌≡◌, length, take, IfOk};
+ghost use Rattle.rows.specs.Image.{image_of};
 ghost use Rattle.rows.specs.Origins.{records_with};
-ghost use Rattle.writer.specs.Writing.{derivation_of, header_holds, write_of, held_after};
+ghost use Rattle.writer.specs.Writing.{derivation_of, write_of, held_after};
 
-use crate::blocks::{write_block, write_header};
+use crate::image::Image;
 use crate::refusal::Refusal;
-use rows::{Origin, PlainRow, layout};
+use rows::{Origin, PlainRow};
 
 // Rows with their origins, of so many unknowns. There are as many records as both lists have.
+// Two lists, and not one of pairs: a table keeps its rows in an array of plain rows with the origins beside it,
+// and a report of it copies nothing, since there is no heap.
 #[derive(Clone, Copy)]
 pub struct Records<'a> {
     pub unknowns: usize,
@@ -30,42 +32,19 @@ impl<'a> Records<'a> {
         ensures holds { buffer.new ≡ held_after result (derivation_of self.now) buffer.old }
         ensures front { IfOk result (λ size. take size buffer.new ≡ image_of (derivation_of self.now)) }
     {
-        if !self.header_holds() {
-            return Err(Refusal::Header);
-        }
-        let size = layout::BLOCK * (1 + layout::blocks_for(self.count()));
+        let image = Image::of(self).ok_or(Refusal::Header)?;
+        let size = image.size();
         if buffer.len() < size {
             return Err(Refusal::TooShort);
         }
-        self.write_image(buffer);
+        image.write(&mut buffer[..size]);
         Ok(size)
-    }
-
-    // Whether n is from 1 to 8 and there are from 1 to 256 records.
-    fn header_holds(&self) -> bool
-        ensures { result ≡ header_holds self.now.unknowns (length (derivation_of self.now).records) }
-    {
-        let n = self.unknowns;
-        let t = self.count();
-        1 <= n && n <= layout::MOST_UNKNOWNS as usize && 1 <= t && t <= layout::MOST_RECORDS
-    }
-
-    fn write_image(&self, buffer: &mut [u8])
-        requires { (self.now.unknowns ≤ 8) × ((length (derivation_of self.now).records ≤ 256) × (image_size (length (derivation_of self.now).records) ≤ length buffer.old)) }
-        ensures whole { buffer.new ≡ image_of (derivation_of self.now) ++ drop (image_size (length (derivation_of self.now).records)) buffer.old }
-        ensures front { take (image_size (length (derivation_of self.now).records)) buffer.new ≡ image_of (derivation_of self.now) }
-    {
-        let t = self.count();
-        write_header(&mut buffer[..layout::BLOCK], self.unknowns, t);
-        for b in 0..layout::blocks_for(t) {
-            let at = layout::BLOCK * (b + 1);
-            write_block(&mut buffer[at..at + layout::BLOCK], self, b);
-        }
     }
 }
 
 // How many rows have an origin.
-fn pairs(origins: &[Origin], rows: &[PlainRow]) -> usize
+#[tactic(auto, using(crate::proofs::Pairs::pair_laws))]
+pub(crate) fn pairs(origins: &[Origin], rows: &[PlainRow]) -> usize
     ensures { result ≡ length (records_with origins.now rows.now) }
 {
     origins.len().min(rows.len())

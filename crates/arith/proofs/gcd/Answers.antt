@@ -1,10 +1,11 @@
--- The divisors of 1.
-use Rattle.std.proofs.Common.{◌≡◌, ℕ, sym, ap, ◌∙◌, subst}
-use Rattle.arith.specs.Gcd.{gcd_of, IsGcd}
-use Rattle.arith.proofs.Divisors.{gcd_one, gcd_is}
+-- What makes the result the greatest common divisor.
+use Rattle.std.proofs.Common.{sym, subst}
+use Rattle.arith.specs.Gcd.{IsGcd}
+use Rattle.arith.proofs.Divisors.{one_is_gcd, gcd_is}
 use Rattle.arith.proofs.gcd.Goals as goal
 
-pub returns-then-a-eq1 : goal.returns-then-a-eq1
-returns-then-a-eq1 c =
-    let one : 1 ≡ gcd_of c.args.a c.args.b = sym (ap (λ a. gcd_of a c.args.b) c.if-a-eq1.true ∙ gcd_one c.args.b) in
-    record { value = one; greatest = subst (λ (g : ℕ). IsGcd c.args.a c.args.b g) (sym one) (gcd_is c.args.a c.args.b) }
+pub returns-then-a-eq1-clause-greatest : goal.returns-then-a-eq1-clause-greatest
+returns-then-a-eq1-clause-greatest c = one_is_gcd c.args.a c.args.b c.if-a-eq1.true
+
+pub returns-clause-greatest : goal.returns-clause-greatest
+returns-clause-greatest c = subst (IsGcd c.args.a c.args.b) (sym c.euclid.ensures) (gcd_is c.args.a c.args.b)

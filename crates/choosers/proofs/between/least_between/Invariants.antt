@@ -1,5 +1,5 @@
 -- What is left, and what has been taken off.
-use Rattle.choosers.specs.Turns.{Walking}
+use Rattle.choosers.proofs.Walk.{Walking}
 use Rattle.choosers.proofs.between.least_between.Given as goal
 
 abbrev pub invariant-loop-turn : goal.invariant-loop-turn

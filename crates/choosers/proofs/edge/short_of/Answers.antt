@@ -1,13 +1,14 @@
 -- The greatest common divisor fits 64 bits, and divides both parts into lowest terms.
-use Rattle.std.proofs.Common.{◌≡◌, ℕ, ◌/◌, ◌^◌, ◌<◌, ◌≤◌, ℤ, pos, nat_abs, sym, ap, ◌∙◌, subst, ap₂, le_trans, arith, w64, SFits, to_z}
+use Rattle.std.proofs.Common.{rules, ◌≡◌, ℕ, ◌/◌, ◌^◌, ◌<◌, ◌≤◌, ℤ, pos, nat_abs, sym, ap, ◌∙◌, subst, ap₂, le_trans, arith, w64, SFits, to_z}
 use native.Mathlib.Nat.{le_of_dvd, pos_of_dvd_of_pos}
 use borrow.Author.Differences.{ints}
 use lib.Signed.{quot_z}
-use Rattle.std.proofs.lemmas.Int.{to_z-of_z, to_z_pos}
+use Rattle.std.proofs.lemmas.Int.{to_z-of_z, to_z_pos, quot_fits}
 use Rattle.arith.specs.Gcd.{gcd_of, IsGcd}
 use Rattle.arith.proofs.Divisors.{quotient_pos, gcd_reduced}
 use Rattle.arith.proofs.LowestForms.{abs_quot}
-use Rattle.rows.proofs.Widths.{read, quot_fits}
+use Rattle.rows.proofs.Widths.{read}
+use Rattle.choosers.specs.Edge.{lowest_terms, short_of}
 use Rattle.choosers.specs.Nearest.{over, if_short}
 use Rattle.choosers.proofs.edge.short_of.Goals as goal
 
@@ -31,10 +32,11 @@ divisor {n} {m} {g} f h k e i d =
     let is : g ≡ gcd_of (nat_abs n) m = i ∙ ap (λ a. gcd_of a m) (e ∙ ap nat_abs (to_z-of_z w64 n f)) in
     let small = le_trans (le_of_dvd h d.right) k in
     let same : quot_z (read n) (to_z w64 g) ≡ quot_z n (pos g) = ap₂ quot_z (to_z-of_z w64 n f) (to_z_pos w64 g (omega arith)) in
-    let fits = quot_fits n g f in
+    let some = pos_of_dvd_of_pos d.right h in
+    let fits : SFits w64 (quot_z n (pos g)) = quot_fits w64 n (pos g) f (omega (arith, ints)) in
     record {
       is = is;
-      some = pos_of_dvd_of_pos d.right h;
+      some = some;
       small = small;
       fits = subst (SFits w64) (sym same) fits;
       quotient = ap read same ∙ to_z-of_z w64 (quot_z n (pos g)) fits;
@@ -42,8 +44,8 @@ divisor {n} {m} {g} f h k e i d =
       lowest = reduced n m g h is;
     }
 
-of_gcd : (c : goal.After-gcd-g) → Divisor c.args.numerator c.args.denominator c.gcd-g.result
-of_gcd c = divisor c.ranges.numerator c.requires.0 c.requires.1 c.unsigned_abs.ensures.value c.gcd-g.ensures.value c.gcd-g.ensures.greatest
+of_gcd : (c : goal.After-gcd-g) → Divisor c.numerator-numerator.result c.denominator-denominator.result c.gcd-g.result
+of_gcd c = divisor (search rules) c.denominator-denominator.ensures.some c.denominator-denominator.ensures.few c.unsigned_abs.ensures.value c.gcd-g.ensures.value c.gcd-g.ensures.greatest
 
 pub overflow_cast-g : goal.overflow_cast-g
 overflow_cast-g c = let d = of_gcd c in omega (arith, ints, d.small)
@@ -52,11 +54,15 @@ pub nonzero_div-numerator : goal.nonzero_div-numerator
 nonzero_div-numerator c = let d = of_gcd c in (d.some, d.fits)
 
 pub if_short-requires : goal.if_short-requires
-if_short-requires c = let d = of_gcd c in (d.under, rw d.quotient d.lowest)
+if_short-requires c = let d = of_gcd c in record { some = d.under; lowest = rw d.quotient d.lowest }
 
 pub returns : goal.returns
+unfolding short_of
 returns c =
-    let d = divisor c.ranges.numerator c.requires.0 c.requires.1 c.unsigned_abs.ensures.value c.gcd-g.ensures.value c.gcd-g.ensures.greatest in
+    let n = c.numerator-numerator in
+    let m = c.denominator-denominator in
+    let d = divisor (search rules) m.ensures.some m.ensures.few c.unsigned_abs.ensures.value c.gcd-g.ensures.value c.gcd-g.ensures.greatest in
     c.if_short.ensures
-    ∙ ap (λ z. if_short (over z (c.args.denominator / c.gcd-g.result))) d.quotient
-    ∙ ap (λ g. if_short (over (quot_z c.args.numerator (pos g)) (c.args.denominator / g))) d.is
+    ∙ ap (λ z. if_short (over z (m.result / c.gcd-g.result))) d.quotient
+    ∙ ap (λ g. if_short (over (quot_z n.result (pos g)) (m.result / g))) d.is
+    ∙ ap₂ (λ n m. if_short (lowest_terms n m)) n.ensures.is m.ensures.is

@@ -1,6 +1,0 @@
--- The places so far hold the same numbers.
-use Rattle.std.proofs.Common.{◌≡◌, ℕ, ◌<◌, length, get_or, pos}
-use Rattle.rows.proofs.numbers.widened.Given as goal
-
-abbrev pub invariant-loop-k : goal.invariant-loop-k
-invariant-loop-k l = (length l.wide ≡ 9) × ((j : ℕ) → j < l.k → get_or l.wide j (pos 0) ≡ get_or l.numbers j (pos 0))
