@@ -19,7 +19,7 @@ pub struct Accepted<'a> {
     pub(crate) inputs: usize,
 }
 
-// A record of an accepted image as its own 60 bytes.
+// A record of an accepted image as its own 60 bytes. Two cases, and no kind beside the bytes: whoever looks at them has to ask which it is.
 #[derive(Clone, Copy, PartialEq, Eq, Debug)]
 pub enum Record<'a> {
     Input(&'a [u8; layout::RECORD]),

@@ -2,14 +2,14 @@
 use Rattle.std.proofs.Common.{◌≡◌, ℕ, zero, suc, ◌+◌, ◌<◌, ◌≤◌, List, [], ◌∷◌, length, map, get_or, ℤ, pos, Some, sym, ap, ◌∙◌, subst, nat_abs, ⊎_elim, zero-le, arith}
 use lib.ListN.{length-map}
 use denote.Param.Members.{Mut, Called}
-use Rattle.std.specs.Array.{IsMapOf, MapsFrom, list_steps, IsFromFnResult, IsFromFnResultFrom, index_steps}
+use Rattle.std.specs.Array.{IsMapOf, MapsFrom, list_steps, IsFromFnResult, IsFromFnResultFrom}
 use Rattle.std.specs.Iterator.{CallableAtEachTurn, Yields}
 use Rattle.std.specs.List.{FoldsTo}
 use Rattle.std.proofs.lemmas.List.{ext_get_or, get_or-map, get_or_past}
 use Rattle.std.proofs.lemmas.Bool.{cases_lt}
 use Rattle.arith.specs.Lowest.{AllWithin}
 
--- it may be called at every number, if it may be at first
+-- it may be called at every element, if it may be at first
 module _ {F : Type 0} (R : F → ℤ → F → Type 0) (Q : F → ℤ → Type 0) (stays : (p : F) (x : ℤ) (q : F) → R p x q → q ≡ p) where
   at_turn : (xs s t : List ℤ) (f p : F) (x : ℤ) (u : List ℤ) → ((k : ℕ) → Q f (get_or s k (pos 0))) → Yields list_steps s xs t → FoldsTo R f xs p → list_steps t (Some x) u → Q p x
   at_turn [] s t f p x u h y c z =
@@ -21,17 +21,6 @@ module _ {F : Type 0} (R : F → ℤ → F → Type 0) (Q : F → ℤ → Type 0
 
   pub map_serves : (zs : List ℤ) (f : F) → ((k : ℕ) → Q f (get_or zs k (pos 0))) → CallableAtEachTurn list_steps R Q zs f
   map_serves zs f h = record { at = λ xs t q x u y c z. at_turn xs zs t f q x u h y c z }
-
--- and at every number below n
-module _ {F : Type 0} (R : F → ℕ → F → Type 0) (Q : F → ℕ → Type 0) (n : ℕ) (stays : (p : F) (x : ℕ) (q : F) → R p x q → q ≡ p) where
-  at_index : (xs : List ℕ) (i j : ℕ) (f p : F) (x u : ℕ) → ((k : ℕ) → k < n → Q f k) → Yields (index_steps n) i xs j → FoldsTo R f xs p → index_steps n j (Some x) u → Q p x
-  at_index [] i j f p x u h y c z =
-      let l : x < n = omega (arith, z.0, z.1) in subst (λ (g : F). Q g x) c (h x l)
-  at_index (w ∷ xs) i j f p x u h y c z =
-      at_index xs y.0 j c.0 p x u (λ k l. subst (λ (g : F). Q g k) (sym (stays f w c.0 c.1)) (h k l)) y.2 c.2 z
-
-  pub fill_serves : (f : F) → ((k : ℕ) → k < n → Q f k) → CallableAtEachTurn (index_steps n) R Q 0 f
-  fill_serves f h = record { at = λ xs t q x u y c z. at_index xs 0 t f q x u h y c z }
 
 -- its results are those of h
 module _ {F : Type 0} (g : Mut F (ℤ × Unit {0}) ℤ) (f : F) (stays : (p q : F) (x y : ℤ) → Called g p (x, tt) y q → q ≡ p) where

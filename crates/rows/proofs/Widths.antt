@@ -44,17 +44,11 @@ module _ (g : ℕ) (z : ℤ) (positive : 0 < g) (small : g ≤ 2 ^ 53) (within :
   fits : SFits w64 (quot_z z (pos g))
   fits = quot_fits w64 z (pos g) (omega (arith, ints)) (omega (arith, ints))
 
-  pub quot_serves : (0 < of_z w64 (to_z w64 g)) × SFits w64 (quot_z (read z) (read (to_z w64 g)))
-  quot_serves = (omega (arith, ints), rw (divisor_is, number_is) fits)
-
   pub quot_reads : (y : ℤ) → y ≡ read (quot_z (read z) (read (to_z w64 g))) → y ≡ quot_z z (pos g)
   quot_reads y e = e ∙ rw (divisor_is, number_is) (to_z-of_z w64 _ fits)
 
 -- the sum of two numbers of 51 bits
 module _ (s t : ℤ) (h : nat_abs s ≤ 2 ^ 51) (k : nat_abs t ≤ 2 ^ 51) where
-  pub sum_fits : SFits w64 (read s +ℤ read t)
-  sum_fits = omega (arith, ints)
-
   pub sum_is : (y : ℤ) → y ≡ read (read s +ℤ read t) → y ≡ s +ℤ t
   sum_is y e = omega (arith, ints)
 

@@ -50,9 +50,6 @@ of_gcd c = divisor (search rules) c.denominator-denominator.ensures.some c.denom
 pub overflow_cast-g : goal.overflow_cast-g
 overflow_cast-g c = let d = of_gcd c in omega (arith, ints, d.small)
 
-pub nonzero_div-numerator : goal.nonzero_div-numerator
-nonzero_div-numerator c = let d = of_gcd c in (d.some, d.fits)
-
 pub if_short-requires : goal.if_short-requires
 if_short-requires c = let d = of_gcd c in record { some = d.under; lowest = rw d.quotient d.lowest }
 

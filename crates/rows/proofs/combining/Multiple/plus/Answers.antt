@@ -1,12 +1,9 @@
 -- Each place holds the sum of the two multiples there.
 use Rattle.std.proofs.Common.{◌^◌, pos, sym, ◌∙◌, arith, rules}
 use Rattle.arith.proofs.Dots.{length-combine, slice_index_or-combine}
-use Rattle.rows.proofs.Arrays.{fill_is, fill_serves, fill_within}
-use Rattle.rows.proofs.Widths.{sum_fits, sum_is, sum_small}
+use Rattle.rows.proofs.Arrays.{fill_is, fill_within}
+use Rattle.rows.proofs.Widths.{sum_is, sum_small}
 use Rattle.rows.proofs.combining.Multiple.plus.Goals as goal
-
-pub from_fn-requires : goal.from_fn-requires
-from_fn-requires c = (omega arith, fill_serves _ _ 9 (λ p x q h. search rules) _ (λ k l. search (rules, sum_fits)))
 
 pub returns : goal.returns
 returns c =

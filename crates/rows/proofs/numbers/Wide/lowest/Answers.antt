@@ -1,11 +1,10 @@
 -- The divisor fits 64 bits, and dividing by it gives the lowest form.
-use Rattle.std.proofs.Common.{◌≡◌, ℕ, ◌^◌, ◌≤◌, List, get_or, ℤ, pos, sym, ap, ◌∙◌, subst, arith, rules}
-use borrow.Author.Differences.{ints}
+use Rattle.std.proofs.Common.{◌≡◌, ◌^◌, ◌≤◌, List, get_or, ℤ, pos, sym, ap, ◌∙◌, subst, arith, rules}
 use lib.Signed.{quot_z}
 use Rattle.arith.specs.Lowest.{AllWithin, gcd_all, lowest_of, IsLowest}
 use Rattle.arith.proofs.LowestForms.{lowest_by, lowest_as_given, lowest_is_lowest, lowest_is, lowest_within}
-use Rattle.rows.proofs.Arrays.{map_is, map_serves}
-use Rattle.rows.proofs.Widths.{quot_serves, quot_reads}
+use Rattle.rows.proofs.Arrays.{map_is}
+use Rattle.rows.proofs.Widths.{quot_reads}
 use Rattle.rows.proofs.numbers.Wide.lowest.Goals as goal
 
 -- the clauses of numbers that are the lowest form
@@ -19,14 +18,6 @@ returns-then-g-le1 c =
     let is = lowest_as_given c.gcd-g.result zs c.if-g-le1.true (c.gcd-g.ensures.value ∙ ap gcd_all (sym c.self.view_is)) in
     let both = lowest_clauses zs zs is in
     rw (← c.self.view_is) record { is = is; least = both.0; lowest = both.1 }
-
-pub overflow_cast-divisor : goal.overflow_cast-divisor
-overflow_cast-divisor c = omega (arith, ints)
-
-pub map-requires : goal.map-requires
-map-requires c =
-    let quot = λ (k : ℕ). quot_serves c.gcd-g.result (get_or c.self.inside.numbers k (pos 0)) (omega arith) c.gcd-g.ensures.small (c.self.invariant k) in
-    (omega arith, (omega arith, (omega arith, map_serves _ _ (λ p x q h. search rules) _ _ (λ k. search (rules, quot k)))))
 
 divided : (c : goal.After-map) → c.map.result ≡ lowest_of c.self.inside.numbers
 divided c =
