@@ -4,3 +4,4 @@ pub mod SimplestFound
 pub mod LeastOvers
 pub mod Turning
 pub mod Walk
+pub mod ByRecursion
