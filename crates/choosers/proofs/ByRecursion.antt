@@ -26,11 +26,12 @@ same_if_short f = on (is_short f)
     on true = refl
     on false = refl
 
--- the first of so many denominators, from q on, with a fraction in the interval; its numerator is the nearest to 0
+-- p/q if it is short, where there is a p, and else what comes later
 pub over_or : Option ℤ → ℕ → Option Fraction → Option Fraction
 over_or (Some p) q later = if_short (over p q)
 over_or None q later = later
 
+-- the first of so many denominators, from q on, with a fraction in the interval; its numerator is the nearest to 0
 pub first_from : ℕ → ℕ → Interval → Option Fraction
 first_from zero q i = None
 first_from (suc more) q i = over_or (nearest_at i q) q (first_from more (suc q) i)
@@ -48,11 +49,12 @@ pub same_simplest : (i : Interval) → first_from (2 ^ 18) 1 i ≡ simplest_of i
 unfolding simplest_of
 same_simplest i = same_first i (2 ^ 18) 1
 
--- the first of so many powers of two, from m on, for which some n/m with n within 2^18 lies in the interval
+-- n/m, if there is an n and it is within 2^18
 pub within_by_cases : Option ℤ → ℕ → Option Fraction
 within_by_cases None m = None
 within_by_cases (Some n) m = cond (nat_le (unsigned_abs n) value_limit) (Some (over n m)) None
 
+-- the first of so many powers of two, from m on, for which some n/m with n within 2^18 lies in the interval
 pub powers_from : ℕ → ℕ → Interval → Option Fraction
 powers_from zero m i = None
 powers_from (suc more) m i = option_or (within_by_cases (nearest_at i m) m) (powers_from more (2 * m) i)

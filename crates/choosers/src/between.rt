@@ -16,7 +16,7 @@ pub(crate) fn least_between(mut near: Ratio, mut far: Ratio) -> Option<Ratio>
     // the given far.
     let mut last = Ratio { over: 1, under: 0 };
     let mut before = Ratio { over: 0, under: 1 };
-    // Counted, so that the bound on the turns is promised too; a `loop` would say only that they end.
+    // Counted, so that the bound on the turns stands in the code and is proved (`unreachable`); a `loop` would say only that they end.
     for _turn in 0..MOST_TURNS {
         let whole = near.rounded_up();
         if far.reaches(whole) {

@@ -72,6 +72,7 @@ impl Bound {
 }
 
 impl Interval {
+    // Two functions for the two ends: the names are the interface.
     // The lower end as a fraction by itself, if there is one.
     pub fn lower_bound(self) -> Option<Bound>
         ensures { result ≡ option_map (bound_of self.scale) self.lower }

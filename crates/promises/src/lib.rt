@@ -12,7 +12,8 @@ use writer::{Records, Refusal};
 
 // Writes the image of the records into the front of the buffer, reads it there, and answers whether it is accepted.
 // Of a derivation it always is, and it is shown as the same records.
-// The answer is a yes or no and not the accepted image: that would borrow the buffer, and then no clause could say what the buffer holds.
+// The answer is a yes or no and not the accepted image: that would borrow the buffer, and then no plain clause says what the buffer holds;
+// tried with the clause on a loan, and its proof stayed open. That records are no derivation is no refusal: their image is written.
 pub fn write_and_read(records: &Records<'_>, buffer: &mut [u8]) -> Result<bool, Refusal>
     ensures is { result ≡ back_of (derivation_of records.now) buffer.old }
     ensures holds { buffer.new ≡ held_after (write_of (derivation_of records.now) buffer.old) (derivation_of records.now) buffer.old }

@@ -13,7 +13,7 @@ use crate::fields::{
 use crate::refusal::Refusal;
 use rows::{Kind, ROW_LIMIT, Row, layout, seal};
 
-// A no refuses the image: here a yes or no becomes a `Result`, once for all questions.
+// A no refuses the image. Once for all questions: `yes.then_some(()).ok_or(refusal)` at each is no plainer.
 pub(crate) fn ask(yes: bool, refusal: Refusal) -> Result<(), Refusal>
     ensures { result ≡ asked yes refusal }
 {

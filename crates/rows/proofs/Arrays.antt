@@ -1,4 +1,5 @@
 -- What an array's `map` and `from_fn` ask and make, where each call leaves the closure as it is.
+--   Said of a list's elements and of indices: the library's facts on the two are of different shapes.
 use Rattle.std.proofs.Common.{◌≡◌, ℕ, zero, suc, ◌+◌, ◌<◌, ◌≤◌, List, [], ◌∷◌, length, map, get_or, ℤ, pos, Some, sym, ap, ◌∙◌, subst, nat_abs, ⊎_elim, zero-le, arith}
 use lib.ListN.{length-map}
 use denote.Param.Members.{Mut, Called}

@@ -41,7 +41,7 @@ pub(crate) fn records_block(
     ensures { let records = records_with origins.now rows.now in result ≡ sealed (block_body number (length records) (flat_map record_bytes records)) }
 {
     let mut held = [0; layout::RECORD * layout::RECORDS_IN_BLOCK];
-    // By bytes written: after a loop over mutable chunks the checker knows their length, and nothing of what they are.
+    // By bytes written, as in `Image::write`: after a loop over mutable chunks the checker knows nothing of what they are.
     let mut end = 0;
     for (origin, row) in origins.iter().zip(rows) {
         put(&mut held, end, &record_bytes(*origin, row));

@@ -43,13 +43,13 @@ impl<'a> Image<'a> {
         ensures { bytes.new ≡ image_of (derivation_of self.now.records) }
     {
         let count = self.records.count();
-        // The casts here and below are proved to lose nothing, so `try_from` would only test again.
+        // The casts are proved to lose nothing, so `try_from` would only test again.
         put(
             bytes,
             0,
             &header(self.records.unknowns as u16, count as u16),
         );
-        // By number: after a loop over mutable chunks the checker knows the length of the bytes, and nothing of what they are.
+        // By number: tried over mutable chunks, but after the loop the checker knows the length of the bytes, and nothing of what they are.
         for b in 0..layout::blocks_for(count) {
             put(bytes, layout::BLOCK * (b + 1), &self.block(b));
         }
@@ -63,6 +63,7 @@ impl<'a> Image<'a> {
     {
         let first = layout::RECORDS_IN_BLOCK * b;
         let end = self.records.count().min(first + layout::RECORDS_IN_BLOCK);
+        // The cast is proved to lose nothing, so `try_from` would only test again.
         records_block(
             b as u32 + 1,
             &self.records.origins[first..end],
