@@ -1,9 +1,9 @@
 -- The worked choices, computed from the definitions.
 use Rattle.std.proofs.Common.{refl}
 use Rattle.arith.specs.Gcd.{gcd_of, gcd_by}
-use Rattle.choosers.specs.Simplest.{simplest_of}
-use Rattle.choosers.specs.Edge.{short_of}
-use Rattle.choosers.specs.Dyadic.{dyadic_of}
+use Rattle.naming.specs.Simplest.{simplest_of}
+use Rattle.naming.specs.Edge.{short_of}
+use Rattle.naming.specs.Dyadic.{dyadic_of}
 use Rattle.choosers.specs.Worked.{WorkedChoices}
 
 pub worked_choices : WorkedChoices

@@ -1,15 +1,1 @@
-pub mod Nearest
-pub mod Simplest
-pub mod Edge
-pub mod Dyadic
-pub mod Spans
 pub mod Worked
-pub mod Firsts
-pub mod DyadicLaw
-pub mod NearestLaw
-pub mod SimplestLaw
-pub mod Leasts
-pub mod Tests
-pub mod SidesLaw
-pub mod SpanLaw
-pub mod EdgeLaw

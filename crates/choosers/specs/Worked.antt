@@ -1,10 +1,10 @@
 -- Choices worked through: [2/5, 3/7], and what is not above -7/2, both at scale 1.
 use Rattle.std.specs.Prelude.{◌≡◌, pos, negsuc, Some, None, refl}
 use Rattle.intervals.specs.declared.interval.Interval.{Interval}
-use Rattle.choosers.specs.Nearest.{over}
-use Rattle.choosers.specs.Simplest.{simplest_of}
-use Rattle.choosers.specs.Edge.{edge_over}
-use Rattle.choosers.specs.Dyadic.{dyadic_over}
+use Rattle.naming.specs.Nearest.{over}
+use Rattle.naming.specs.Simplest.{simplest_of}
+use Rattle.naming.specs.Edge.{edge_over}
+use Rattle.naming.specs.Dyadic.{dyadic_over}
 
 abbrev pub two_fifths_on : Interval
 two_fifths_on =

@@ -1,6 +1,0 @@
--- What is left, and what has been taken off.
-use Rattle.choosers.proofs.Walk.{Walking}
-use Rattle.choosers.proofs.between.least_between.Given as goal
-
-abbrev pub invariant-loop-turn : goal.invariant-loop-turn
-invariant-loop-turn l = Walking l.initial.near l.initial.far l.near l.far l.last l.before l._turn

@@ -1,0 +1,15 @@
+pub mod Powers
+pub mod SimplestFound
+pub mod LeastOvers
+pub mod Turning
+pub mod Walk
+pub mod ByRecursion
+pub mod DyadicLaw
+pub mod EdgeLaw
+pub mod Firsts
+pub mod Leasts
+pub mod NearestLaw
+pub mod SidesLaw
+pub mod SimplestLaw
+pub mod SpanLaw
+pub mod Tests

@@ -1,0 +1,5 @@
+pub mod Nearest
+pub mod Simplest
+pub mod Edge
+pub mod Dyadic
+pub mod Spans
