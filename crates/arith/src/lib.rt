@@ -20,7 +20,8 @@ pub fn gcd(a: u64, b: u64) -> u64
 
 #[tactic(auto, using(crate::proofs::Divisors::gcd_zero, crate::proofs::Divisors::gcd_step))]
 fn euclid(a: u64, b: u64) -> u64
-    ensures { result ≡ gcd_of a b }
+    ensures value { result ≡ gcd_of a b }
+    ensures greatest { IsGcd a b result }
 {
     let (mut x, mut y) = (a, b);
     while y != 0 {

@@ -25,7 +25,7 @@ pub combination_follows : (u : ℕ) (first : List ℤ) (v : ℕ) (second row : L
 unfolding combination_of
 combination_follows u first v second row l e point p q =
     let m : Some row ≡ row_of (combine (pos u) first (pos v) second) = grind (arith, nat_tests) in
-    found_row (Some row) (combine (pos u) first (pos v) second) (Satisfies point) m (lowest_follows u first v second l point p q)
+    found_row (λ numbers. numbers) (Some row) (combine (pos u) first (pos v) second) (Satisfies point) m (lowest_follows u first v second l point p q)
 
 -- a row with no coefficient but 0 is worth its constant times the denominator
 dot-zeros : (xs ps : List ℤ) → ((k : ℕ) → get_or xs k (pos 0) ≡ pos 0) → dot xs ps ≡ pos 0

@@ -1,5 +1,6 @@
 -- What follows from a row that was made from numbers, or was not.
 use Rattle.std.proofs.Common.{◌≡◌, true, leb, List, length, get_or, ℤ, pos, ◌≤ℤ◌, le_trans, IfSome, Some, None, Option, sym, ◌∙◌, subst, arith}
+use Rattle.std.specs.Option.{option_map}
 use Rattle.std.proofs.lemmas.Bool.Decides.{nat_tests}
 use Rattle.std.proofs.lemmas.Bool.{and_parts, leb-true}
 use Rattle.arith.specs.Lowest.{AllWithin, within_all, gcd_all, lowest_of}
@@ -7,10 +8,10 @@ use Rattle.arith.proofs.LowestForms.{within_is, lowest_within, lowest_positive, 
 use Rattle.rows.specs.Rows.{row_limit, value_limit, in_lowest, in_limit, row_of, IsReduced, AreReduced}
 
 -- what the lowest form of the numbers has, the row has
-pub found_row : (made : Option (List ℤ)) (zs : List ℤ) (P : List ℤ → Type 0) → made ≡ row_of zs → P (lowest_of zs) → IfSome made P
+pub found_row : {T : Type 0} (f : T → List ℤ) (o : Option T) (zs : List ℤ) (P : List ℤ → Type 0) → option_map f o ≡ row_of zs → P (lowest_of zs) → IfSome o (λ t. P (f t))
 unfolding in_limit
-found_row None zs P e p = tt
-found_row (Some row) zs P e p = let q : row ≡ lowest_of zs = grind (arith, nat_tests) in subst P (sym q) p
+found_row f None zs P e p = tt
+found_row f (Some t) zs P e p = let q : f t ≡ lowest_of zs = grind (arith, nat_tests) in subst P (sym q) p
 
 -- numbers that pass both tests are those of a row
 pub reduced_from : (zs : List ℤ) → length zs ≡ 9 → in_lowest zs ≡ true → IsReduced zs

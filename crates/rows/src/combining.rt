@@ -1,5 +1,6 @@
 // The combination of two rows.
 ghost use Rattle.std.specs.Prelude.{◌≡◌, ◌^◌, ◌<◌, ◌≤◌, ◌↔◌, List, ℤ, pos, ◌*ℤ◌, IfSome, IsNone, length, slice_index_or, unsigned_abs};
+ghost use Rattle.std.specs.Option.{option_map};
 ghost use Rattle.arith.specs.Dot.{combine};
 ghost use Rattle.rows.specs.Rows.{combination_of, Satisfies};
 
@@ -12,8 +13,8 @@ use std::array;
 // Whatever satisfies both rows satisfies the combination.
 #[tactic(auto, unfolding(crate::specs::Rows::combination_of))]
 pub fn combination(u: u32, first: &PlainRow, v: u32, second: &PlainRow) -> Option<Row>
-    ensures value { result ≡ combination_of u first.now.numbers v second.now.numbers }
-    ensures follows { IfSome result (λ row. (point : List ℤ) → Satisfies point first.now.numbers → Satisfies point second.now.numbers → Satisfies point row) }
+    ensures value { option_map (λ row. row.plain.numbers) result ≡ combination_of u first.now.numbers v second.now.numbers }
+    ensures follows { IfSome result (λ row. (point : List ℤ) → Satisfies point first.now.numbers → Satisfies point second.now.numbers → Satisfies point row.plain.numbers) }
 {
     let first = Multiple::of(u, first)?;
     let second = Multiple::of(v, second)?;

@@ -17,10 +17,7 @@ impl PlainRow {
         ensures value { result ≡ level_of self.now.numbers }
         ensures greatest { IsLevel self.now.numbers result }
     {
-        self.numbers
-            .iter()
-            .rposition(|number| *number != 0)
-            .unwrap_or(0)
+        last_place(&self.numbers)
     }
 
     // Whether no point satisfies the row: every coefficient is 0, and the constant is negative.
@@ -37,4 +34,12 @@ impl PlainRow {
         let wide = Wide::from(self.numbers);
         wide.is_within(ROW_LIMIT) && wide.gcd() <= 1
     }
+}
+
+// The place of the last number that is not 0, but for the first number: a function of its own, so that `level` is proved from its contract.
+fn last_place(numbers: &[i32; 9]) -> usize
+    ensures value { result ≡ level_of numbers.now }
+    ensures greatest { IsLevel numbers.now result }
+{
+    numbers.iter().rposition(|number| *number != 0).unwrap_or(0)
 }

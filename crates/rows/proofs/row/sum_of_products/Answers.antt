@@ -14,15 +14,15 @@ loop-coefficient-init c = ((tt, tt), tt, refl, omega arith)
 -- where this turn's numbers stand
 record Turn (c : goal.After-from-in-loop-coefficient) : Type 0 where
   within : length c.loop-coefficient.yielded < 9
-  in_row : length c.loop-coefficient.yielded < length c.row.inside.plain.numbers
-  in_values : length c.loop-coefficient.yielded < length c.values.inside.numbers
-  coefficient : c.from.result ≡ to_z w32 (of_z w32 (get_or c.row.inside.plain.numbers (length c.loop-coefficient.yielded) (pos 0)))
-  value : c.from-in-loop-coefficient.result ≡ to_z w32 (of_z w32 (get_or c.values.inside.numbers (length c.loop-coefficient.yielded) (pos 0)))
+  in_row : length c.loop-coefficient.yielded < length c.args.row.now.plain.numbers
+  in_values : length c.loop-coefficient.yielded < length c.args.values.now.numbers
+  coefficient : c.from.result ≡ to_z w32 (of_z w32 (get_or c.args.row.now.plain.numbers (length c.loop-coefficient.yielded) (pos 0)))
+  value : c.from-in-loop-coefficient.result ≡ to_z w32 (of_z w32 (get_or c.args.values.now.numbers (length c.loop-coefficient.yielded) (pos 0)))
 
 turn : (c : goal.After-from-in-loop-coefficient) → Turn c
 turn c =
     let t =
-    zip_turn c.row.inside.plain.numbers c.values.inside.numbers c.loop-coefficient.yielded c.into_iter-coefficient-iterator.result
+    zip_turn c.args.row.now.plain.numbers c.args.values.now.numbers c.loop-coefficient.yielded c.into_iter-coefficient-iterator.result
     _ c.next.new.self _ (search rules) (search rules) c.loop-coefficient.yielded_by (c.in-Some.coefficient, c.in-Some.value) c.in-Some.is c.next.ensures.steps in
     record {
       within = omega (arith, t.0);
@@ -36,26 +36,24 @@ pub overflow_add-sum : goal.overflow_add-sum
 overflow_add-sum c =
     let t = turn c in
     let n = length c.loop-coefficient.yielded in
-    let a = get_or c.row.inside.plain.numbers n (pos 0) in
-    let b = get_or c.values.inside.numbers n (pos 0) in
-    (added a b _ _ n c.loop-coefficient.sum-is c.loop-coefficient.invariant.3 t.within (c.row.invariant.limits n) (c.values.invariant.limits n) t.coefficient t.value).fits
+    let a = get_or c.args.row.now.plain.numbers n (pos 0) in
+    let b = get_or c.args.values.now.numbers n (pos 0) in
+    (added a b _ _ n c.loop-coefficient.sum-is c.loop-coefficient.invariant.3 t.within (c.args.row.now.limits n) (c.args.values.now.limits n) t.coefficient t.value).fits
 
 pub loop-coefficient-preserved : goal.loop-coefficient-preserved
 loop-coefficient-preserved c =
     let t = turn c in
     let n = length c.loop-coefficient.yielded in
-    let a = get_or c.row.inside.plain.numbers n (pos 0) in
-    let b = get_or c.values.inside.numbers n (pos 0) in
-    let s = added a b _ _ n c.loop-coefficient.sum-is c.loop-coefficient.invariant.3 t.within (c.row.invariant.limits n) (c.values.invariant.limits n) t.coefficient t.value in
-    let d = dot_more c.row.inside.plain.numbers c.values.inside.numbers n t.in_row t.in_values in
-    let before = rw (← c.row.view_is, ← c.values.view_is) at c.loop-coefficient.invariant.2 in
-    rw (length_push, ← c.row.view_is, ← c.values.view_is)
-    ((tt, tt), tt, s.is ∙ ap (λ z. z +ℤ a *ℤ b) before ∙ sym d, rw s.is s.within)
+    let a = get_or c.args.row.now.plain.numbers n (pos 0) in
+    let b = get_or c.args.values.now.numbers n (pos 0) in
+    let s = added a b _ _ n c.loop-coefficient.sum-is c.loop-coefficient.invariant.3 t.within (c.args.row.now.limits n) (c.args.values.now.limits n) t.coefficient t.value in
+    let d = dot_more c.args.row.now.plain.numbers c.args.values.now.numbers n t.in_row t.in_values in
+    rw length_push ((tt, tt), tt, s.is ∙ ap (λ z. z +ℤ a *ℤ b) c.loop-coefficient.invariant.2 ∙ sym d, rw s.is s.within)
 
 pub returns : goal.returns
 returns c =
-    let xs = c.row.inside.plain.numbers in
-    let ys = c.values.inside.numbers in
+    let xs = c.args.row.now.plain.numbers in
+    let ys = c.args.values.now.numbers in
     let n = length c.loop-coefficient.yielded in
     let e = zip_end xs ys c.loop-coefficient.yielded c.into_iter-coefficient-iterator.result _ c.next.new.self _ (search rules) (search rules) c.loop-coefficient.yielded_by c.in-None.is c.next.ensures.steps in
-    c.loop-coefficient.invariant.2 ∙ rw (← c.row.view_is, ← c.values.view_is) (ap₂ dot (take_all n xs (omega arith)) (take_all n ys (omega arith)))
+    c.loop-coefficient.invariant.2 ∙ ap₂ dot (take_all n xs (omega arith)) (take_all n ys (omega arith))
