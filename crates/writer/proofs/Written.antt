@@ -2,9 +2,16 @@
 use Rattle.std.proofs.Common.{◌≡◌, ℕ, ◌+◌, ◌-◌, ◌≤◌, List, ◌++◌, length, take, sym, ap, ◌∙◌, append_assoc, arith, length-append, length-take-le}
 use Rattle.std.specs.List.{flat_map}
 use Rattle.std.proofs.Math.Seq.{take-append_seam, drop-append-add}
-use Rattle.std.proofs.lemmas.List.{drop-replicate, take_at}
+use borrow.Rule.Slice.PartMut.{put_mid}
+use Rattle.std.proofs.lemmas.List.{drop-drop, drop-replicate, take_at}
 use Rattle.rows.specs.Image.{zero_bytes}
 use Rattle.writer.specs.Writing.{written}
+
+-- a write into `bytes[at..end]`
+pub written_in : (bytes part : List ℕ) (at end : ℕ) → end ≡ at + length part → put_mid at (end - at) bytes part ≡ written bytes at part
+written_in bytes part at end e =
+    let k : end - at ≡ length part = omega arith in
+    rw (k, drop-drop (length part) at bytes)
 
 -- the part stands behind what stood before it
 pub take-written : (bytes part : List ℕ) (at n : ℕ) → n ≡ at + length part → at ≤ length bytes → take n (written bytes at part) ≡ take at bytes ++ part

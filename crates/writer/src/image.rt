@@ -4,7 +4,7 @@ ghost use Rattle.rows.specs.Image.{image_size, records_block, image_of};
 ghost use Rattle.rows.specs.Origins.{records_with};
 ghost use Rattle.writer.specs.Writing.{derivation_of, header_holds};
 
-use crate::blocks::{header, records_block};
+use crate::blocks::{header, write_records};
 use crate::fields::put;
 use crate::records::Records;
 use rows::layout;
@@ -51,20 +51,23 @@ impl<'a> Image<'a> {
         );
         // By number: tried over mutable chunks, but after the loop the checker knows the length of the bytes, and nothing of what they are.
         for b in 0..layout::blocks_for(count) {
-            put(bytes, layout::BLOCK * (b + 1), &self.block(b));
+            let at = layout::BLOCK * (b + 1);
+            self.write_block(&mut bytes[at..at + layout::BLOCK], b);
         }
     }
 
     // Block b + 1, with the records that stand there.
     #[tactic(auto, using(crate::proofs::Pairs::pair_laws))]
-    fn block(&self, b: usize) -> [u8; layout::BLOCK]
-        requires { 8 * b < length (derivation_of self.now.records).records }
-        ensures { result ≡ records_block (derivation_of self.now.records).records b }
+    fn write_block(&self, block: &mut [u8], b: usize)
+        requires size { length block.old ≡ 512 }
+        requires some { 8 * b < length (derivation_of self.now.records).records }
+        ensures { block.new ≡ records_block (derivation_of self.now.records).records b }
     {
         let first = layout::RECORDS_IN_BLOCK * b;
         let end = self.records.count().min(first + layout::RECORDS_IN_BLOCK);
         // The cast is proved to lose nothing, so `try_from` would only test again.
-        records_block(
+        write_records(
+            block,
             b as u32 + 1,
             &self.records.origins[first..end],
             &self.records.rows[first..end],

@@ -4,7 +4,7 @@ use Rattle.std.specs.List.{range_with_len, flat_map}
 use Rattle.rows.specs.Derivations.{Derivation}
 use Rattle.rows.specs.Image.{blocks_for, records_block, header_bytes, image_of}
 use Rattle.writer.specs.Writing.{derivation_of, written}
-use Rattle.writer.proofs.Written.{take-written, take-written_next}
+use Rattle.writer.proofs.Written.{take-written, take-written_next, written_in}
 use Rattle.writer.proofs.image.Image.write.Goals as goal
 
 first : (d : Derivation) (bytes header new : List ℕ) (t n : ℕ) → t ≡ length d.records → header ≡ header_bytes d.unknowns t → length header ≡ 512 → new ≡ written bytes 0 header → n ≡ blocks_for t →
@@ -22,7 +22,10 @@ pub loop-b-preserved : goal.loop-b-preserved
 loop-b-preserved c =
     let d = derivation_of c.args.self.now.records in
     let b : ℕ = c.loop-b.b in
+    let at : ℕ = 512 * (b + 1) in
     let n : ℕ = blocks_for c.count-count.result in
     let one : n - b ≡ suc (n - (b + 1)) = omega arith in
-    take-written_next (records_block d.records) b (range_with_len (b + 1) (n - (b + 1))) c.loop-b.bytes c.block.result c.put-in-loop-b.new.bytes (image_of d) (512 * (b + 1)) (512 * (b + 1 + 1))
-    (rw one at c.loop-b.invariant) c.block.ensures (omega arith) (omega arith) c.put-in-loop-b.ensures
+    let block : List ℕ = c.write_block.new.block in
+    let long : length block ≡ 512 = search rules in
+    take-written_next (records_block d.records) b (range_with_len (b + 1) (n - (b + 1))) c.loop-b.bytes block _ (image_of d) at (512 * (b + 1 + 1))
+    (rw one at c.loop-b.invariant) c.write_block.ensures (omega arith) (omega arith) (written_in c.loop-b.bytes block at (at + 512) (omega arith))

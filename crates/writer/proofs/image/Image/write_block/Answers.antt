@@ -6,7 +6,7 @@ use Rattle.rows.specs.Derivations.{Record}
 use Rattle.rows.specs.Image.{count_in, sealed, record_bytes, block_body, records_block}
 use Rattle.rows.specs.Origins.{records_with}
 use Rattle.writer.proofs.Pairs.{records_with-drop, records_with-take}
-use Rattle.writer.proofs.image.Image.block.Goals as goal
+use Rattle.writer.proofs.image.Image.write_block.Goals as goal
 
 pub returns : goal.returns
 unfolding records_block
@@ -18,5 +18,5 @@ returns c =
     let same = records_with-take k (drop (8 * c.args.b) c.args.self.now.records.origins.now) (drop (8 * c.args.b) c.args.self.now.records.rows.now)
     ∙ ap (take k) (records_with-drop (8 * c.args.b) c.args.self.now.records.origins.now c.args.self.now.records.rows.now) ∙ ap (λ n. take n left) few ∙ take_min 8 left in
     let long : length (take 8 left) ≡ count_in (length all) c.args.b = simp (length-take, length-drop) (omega arith) in
-    c.records_block.ensures ∙ ap (λ records. sealed (block_body (c.args.b + 1) (length records) (flat_map record_bytes records))) same
+    c.write_records.ensures ∙ ap (λ records. sealed (block_body (c.args.b + 1) (length records) (flat_map record_bytes records))) same
     ∙ ap (λ n. sealed (block_body (c.args.b + 1) n (flat_map record_bytes (take 8 left)))) long
