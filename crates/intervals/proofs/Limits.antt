@@ -13,7 +13,7 @@ pub record EndLimits (e : End) : Type 0 where
   pub some : 1 ≤ e.divisor
   pub divisor : e.divisor ≤ 2 ^ 20
 
-end_limits : (e : End) → is_end e ≡ true → EndLimits e
+pub end_limits : (e : End) → is_end e ≡ true → EndLimits e
 end_limits e h = search rules
 
 pub record ShortLimits (f : Fraction) : Type 0 where
@@ -38,7 +38,7 @@ pub record EndsLimits (lower upper : Option End) : Type 0 where
   pub upper_end : (b : End) → upper ≡ Some b → EndLimits b
   pub ordered : (a b : End) → lower ≡ Some a → upper ≡ Some b → in_order a b ≡ true
 
-ends_limits : (lower upper : Option End) → are_ends lower upper ≡ true → EndsLimits lower upper
+pub ends_limits : (lower upper : Option End) → are_ends lower upper ≡ true → EndsLimits lower upper
 ends_limits lower upper h =
     record {
       lower_end = λ a e. search (rules, end_limits);

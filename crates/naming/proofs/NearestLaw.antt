@@ -84,7 +84,7 @@ past_zero None side p q h k = refl
 past_zero (Some e) Above p q h k = grind (arith, ints, neg-*ℤ, zero_times)
 past_zero (Some e) Below p q h k = grind (arith, ints, neg-*ℤ, zero_times)
 
-zero_inside : (i : Interval) (p : ℤ) (q : ℕ) → inside i (over p q) ≡ true → inside i (over (neg_ℤ p) q) ≡ true → inside i (over (pos 0) q) ≡ true
+pub zero_inside : (i : Interval) (p : ℤ) (q : ℕ) → inside i (over p q) ≡ true → inside i (over (neg_ℤ p) q) ≡ true → inside i (over (pos 0) q) ≡ true
 zero_inside i p q h k = inside_from i Above (pos 0) q (on Above) (on Below)
   where
     on : (side : Side) → past (end_of side i) side (pos 0) q ≡ true

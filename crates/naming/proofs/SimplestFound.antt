@@ -13,8 +13,11 @@ use Rattle.naming.proofs.Leasts.{least_lowest}
 use Rattle.naming.proofs.SpanLaw.{Sees, SeesOption, span_sees}
 use Rattle.naming.proofs.SimplestLaw.{abs-signed, simplest_seen, simplest_zero, simplest_only, simplest_exists, simplest_named, least_of_simplest, long_none, zero_short}
 
+pub zero_named : Some (over (pos 0) 1) ≡ if_short (over (pos 0) 1)
+zero_named = ap (λ b. then_some b (over (pos 0) 1)) (sym zero_short)
+
 pub zero_is : (i : Interval) → span_of i ≡ None → Some (over (pos 0) 1) ≡ simplest_of i
-zero_is i e = sym (simplest_named i (over (pos 0) 1) (simplest_zero i (subst (SeesOption i) e (span_sees i))) ∙ ap (λ b. then_some b (over (pos 0) 1)) zero_short)
+zero_is i e = sym (simplest_named i (over (pos 0) 1) (simplest_zero i (subst (SeesOption i) e (span_sees i))) ∙ sym zero_named)
 
 pub least_is : (i : Interval) (s : Seen) (p q : ℕ) → span_of i ≡ Some s → Least s.near s.far p q → if_short (over (signed s.side p) q) ≡ simplest_of i
 least_is i s p q e l = sym (simplest_named i (over (signed s.side p) q) (simplest_seen i s (subst (SeesOption i) e (span_sees i)) p q l))

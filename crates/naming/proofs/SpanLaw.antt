@@ -1,6 +1,6 @@
 -- What is seen of an interval from 0 says which fractions lie in it.
 use Rattle.std.specs.Prelude.{◌≡◌, ℕ, ◌*◌, ◌≤◌, true, false, ℤ, pos, Some, None, Option, unsigned_abs, refl}
-use Rattle.std.proofs.Common.{subst, mul-pos, le_trans, arith}
+use Rattle.std.proofs.Common.{sym, subst, mul-pos, le_trans, arith}
 use Rattle.std.proofs.lemmas.Int.{ints}
 use Rattle.std.specs.Option.{option_map, option_or}
 use Rattle.std.proofs.lemmas.Option.{none-some}
@@ -65,10 +65,10 @@ magnitude_is : (e : EndFraction) → IsBound e.numerator e.denominator → 1 ≤
 magnitude_is e l h = record { some_over = h; few_over = l.few_over; some_under = l.some_under; few_under = l.few_under }
 
 -- the end behind another lies on its side, and is not the lesser in magnitude
-record Behind (side : Side) (near far : EndFraction) : Type 0 where
-  on : is_on side far.numerator ≡ true
-  some : 1 ≤ unsigned_abs far.numerator
-  ordered : unsigned_abs near.numerator * far.denominator ≤ unsigned_abs far.numerator * near.denominator
+pub record Behind (side : Side) (near far : EndFraction) : Type 0 where
+  pub on : is_on side far.numerator ≡ true
+  pub some : 1 ≤ unsigned_abs far.numerator
+  pub ordered : unsigned_abs near.numerator * far.denominator ≤ unsigned_abs far.numerator * near.denominator
 
 behind : (side : Side) (a b : EndFraction) → 1 ≤ b.denominator → is_on side a.numerator ≡ true → past (Some a) side b.numerator b.denominator ≡ true → Behind side a b
 behind side a b l h o =
@@ -131,3 +131,10 @@ span_sees i = on (side_of Above i) (side_of Below i) refl refl
     on (Some s) t e f = side_sees i Above s e
     on None (Some s) e f = side_sees i Below s f
     on None None e f = λ q. inside_from i Above (pos 0) q (zero_from Above _ _ e q) (zero_from Below _ _ f q)
+
+-- what is seen, as an answer says it
+pub seen_some : (i : Interval) (s : Seen) → Some s ≡ span_of i → Sees i s
+seen_some i s e = subst (SeesOption i) (sym e) (span_sees i)
+
+pub seen_none : (i : Interval) → None ≡ span_of i → (q : ℕ) → inside i (over (pos 0) q) ≡ true
+seen_none i e = subst (SeesOption i) (sym e) (span_sees i)
