@@ -4,3 +4,6 @@ pub use Rattle.naming.specs.Edge
 pub use Rattle.naming.specs.Dyadic
 pub use Rattle.naming.specs.Spans
 pub mod Worked
+pub use Rattle.naming.proofs.SimplestLaw
+pub use Rattle.naming.proofs.EdgeLaw
+pub use Rattle.naming.proofs.DyadicLaw
